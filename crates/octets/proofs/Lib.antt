@@ -1,0 +1,4 @@
+pub mod PastTheEnd
+pub mod Parts
+pub mod Order
+pub mod Unique

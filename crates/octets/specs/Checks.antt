@@ -1,0 +1,25 @@
+-- Refusals in their order: a list of checks, each with the number that document 01 gives it; the first that fails decides.
+-- Assumes nothing.
+use Prim.Native.Nat.{ℕ}
+use mathlib.Core.Bool.{Bool, cond}
+use mathlib.Core.List.{List, [], _∷_}
+
+infix 70 _⇒_
+infixr 30 _then_
+-- `b ⇒ n`: where b holds, n is the refusal
+pub data Check : Type 0 where
+  _⇒_ : Bool → ℕ → Check
+
+-- what the checks come to
+pub data Verdict : Type 0 where
+  good : Verdict
+  refuse : ℕ → Verdict
+
+unfoldable pub verdict : List Check → Verdict
+verdict [] = good
+verdict ((b ⇒ n) ∷ rest) = cond b (refuse n) (verdict rest)
+
+-- a verdict, and where it is good the next one
+unfoldable pub _then_ : Verdict → Verdict → Verdict
+good then v = v
+refuse n then v = refuse n
