@@ -1,0 +1,102 @@
+-- What is known of a frame that reading accepts. Assumes nothing.
+use Prim.Native.Nat.{ℕ, _+_, _≤_}
+use mathlib.Core.Path.{_≡_, refl, sym, _∙_}
+use mathlib.Core.Bool.{Bool, true, false, cond, _||_}
+use mathlib.Core.List.{List, []}
+use lib.ListN.{length}
+use borrow.Author.Tests.{ltb-false, eqb-false}
+use Rattle.octets.specs.Octets.{be16}
+use Rattle.octets.specs.Checks.{Verdict, good, refuse, verdict}
+use Rattle.octets.proofs.Order.{verdict-append, clear, both-good}
+use Rattle.frame.specs.declared.Header.{Header}
+use Rattle.frame.specs.declared.Reading.the-variants.{Frame, Refused}
+use Rattle.frame.specs.Layout.{C-TAG, R-TAG, tagged, vlan, tagPlace, numbered, payloadPlace, kindPlace}
+use Rattle.frame.specs.Inner.{Before}
+use Rattle.frame.specs.Reading.{lengthChecks, ctagChecks, rtagChecks, checks, header, answered, reading}
+
+-- the answer tells the verdict: a header is given exactly of a good frame, and it is the frame's
+pub frame-good : (o : List ℕ) {h : Header} → Frame h ≡ reading o → (verdict (checks o) ≡ good) × (h ≡ header o)
+unfolding reading
+frame-good o {h} e = by-verdict (verdict (checks o)) e
+  where
+    by-verdict : (v : Verdict) → Frame h ≡ answered v (header o) → (v ≡ good) × (h ≡ header o)
+    by-verdict good e = (refl, cc)
+    by-verdict (refuse n) e = (cc, cc)
+
+pub good-frame : (o : List ℕ) → verdict (checks o) ≡ good → Frame (header o) ≡ reading o
+unfolding reading
+good-frame o e = simp e
+
+pub refused-by : (o : List ℕ) {n : ℕ} → Refused n ≡ reading o → verdict (checks o) ≡ refuse n
+unfolding reading
+refused-by o {n} e = by-verdict (verdict (checks o)) e
+  where
+    by-verdict : (v : Verdict) → Refused n ≡ answered v (header o) → v ≡ refuse n
+    by-verdict good e = cc
+    by-verdict (refuse m) e = cc
+
+neither : (a b : Bool) → (a || b) ≡ false → (a ≡ false) × (b ≡ false)
+neither false b e = (refl, e)
+neither true b e = (cc, cc)
+
+module _ (o : List ℕ) (ok : verdict (checks o) ≡ good) where
+  lengths-good : verdict (lengthChecks o) ≡ good
+  unfolding checks
+  lengths-good = both-good _ _ (sym (verdict-append (lengthChecks o) _) ∙ ok) .0
+
+  tags-good : (verdict (cond (tagged o) (ctagChecks o) []) ≡ good) × (verdict (cond (numbered o) (rtagChecks o) []) ≡ good)
+  unfolding checks
+  tags-good = both-good _ _ (sym (verdict-append (cond (tagged o) (ctagChecks o) []) _) ∙ both-good _ _ (sym (verdict-append (lengthChecks o) _) ∙ ok) .1)
+
+  pub least : 14 ≤ length o
+  unfolding lengthChecks
+  least = ltb-false _ _ (clear _ _ _ lengths-good .0)
+
+  pub most : length o ≤ 1522
+  unfolding lengthChecks
+  most = ltb-false _ _ (clear _ _ _ (clear _ _ _ lengths-good .1) .0)
+
+  -- at a C-TAG: the octets reach past the type behind it, the VLAN id is not 4,095, and no second C-TAG follows
+  pub behind-ctag : tagged o ≡ true → (18 ≤ length o) × (vlan o ≡ 4095 → ⊥) × (be16 o 16 ≡ C-TAG → ⊥)
+  unfolding ctagChecks
+  behind-ctag t =
+      let g = clear _ _ _ (simp t at (tags-good .0)) in
+      let v = clear _ _ _ (g .1) in
+      (ltb-false _ _ (g .0), eqb-false _ _ (v .0), eqb-false _ _ (clear _ _ _ (v .1) .0))
+
+  -- at an R-TAG: the octets reach past the type behind it, and no tag follows
+  pub behind-rtag : numbered o ≡ true
+      → (tagPlace o + 6 + 2 ≤ length o) × (be16 o (tagPlace o + 6) ≡ C-TAG → ⊥) × (be16 o (tagPlace o + 6) ≡ R-TAG → ⊥)
+  unfolding rtagChecks
+  behind-rtag n =
+      let g = clear _ _ _ (simp n at (tags-good .1)) in
+      let e = neither _ _ (clear _ _ _ (g .1) .0) in
+      (ltb-false _ _ (g .0), eqb-false _ _ (e .0), eqb-false _ _ (e .1))
+
+  -- so only the checks at an R-TAG were left when its place was reached
+  pub good-before : Before o (tagPlace o) (tagged o) (vlan o)
+  good-before = record { place = refl; isTagged = refl; isVlan = refl; left = ok ∙ sym (tags-good .1) }
+
+  -- without an R-TAG, what stands at its place is no tag
+  pub no-tag : numbered o ≡ false → (be16 o (tagPlace o) ≡ C-TAG → ⊥) × (be16 o (tagPlace o) ≡ R-TAG → ⊥)
+  unfolding numbered tagPlace tagged
+  no-tag n = (by-tag (tagged o) refl, eqb-false _ _ n)
+    where
+      by-tag : (t : Bool) → tagged o ≡ t → be16 o (tagPlace o) ≡ C-TAG → ⊥
+      by-tag true e = rw e (behind-ctag e .2)
+      by-tag false e = rw e (eqb-false _ _ e)
+
+  -- the payload starts within the frame
+  pub payload-within : payloadPlace o ≤ length o
+  unfolding payloadPlace kindPlace tagPlace
+  payload-within = by-tags (tagged o) (numbered o) refl refl
+    where
+      by-tags : (t n : Bool) → tagged o ≡ t → numbered o ≡ n → cond n (cond t 16 12 + 6) (cond t 16 12) + 2 ≤ length o
+      by-tags t true e f = rw (← e) (behind-rtag f .0)
+      by-tags true false e f = behind-ctag e .0
+      by-tags false false e f = least
+
+-- the same of the header that was read
+pub starts-within : (o : List ℕ) {h : Header} → Frame h ≡ reading o → h .payload ≤ length o
+unfolding header
+starts-within o e = let g = frame-good o e in rw (g .1) (payload-within o (g .0))

@@ -1,0 +1,4 @@
+pub mod Layout
+pub mod Reading
+pub mod Inner
+pub mod Tag
