@@ -1,0 +1,70 @@
+-- What an answer tells of the table's verdict, and what the verdict and the frame's reading make of a lookup. Assumes nothing.
+use Prim.Native.Nat.{ℕ}
+use mathlib.Core.Path.{_≡_, refl, sym}
+use mathlib.Core.Bool.{Bool, true, false, cond}
+use mathlib.Core.List.{List, [], _∷_}
+use Rattle.octets.specs.Checks.{Verdict, good, refuse, verdict, _then_}
+use Rattle.frame.specs.declared.Header.{Header}
+use Rattle.frame.specs.declared.Reading.the-variants as Reading
+use Rattle.frame.specs.Reading.{reading}
+use Rattle.frame.proofs.Accepted.{frame-good, refused-by}
+use Rattle.streams.specs.declared.Checked.the-variants as Checked
+use Rattle.streams.specs.declared.Found.{Found}
+use Rattle.streams.specs.declared.Found.the-variants.{Stream, NoStream, Refused}
+use Rattle.streams.specs.Table.{fields, entries, tableVerdict}
+use Rattle.streams.specs.Match.{matches, firstMatch}
+use Rattle.streams.specs.Lookup.{checkedBy, foundBy, lookupOf, Checks, LooksUp}
+use Rattle.streams.specs.Inner.{walked}
+
+-- the table's verdict that the answer of a walk tells
+abbrev pub verdictOf : Found → Verdict
+verdictOf (Refused n) = refuse n
+verdictOf (Stream s) = good
+verdictOf NoStream = good
+
+-- a match is no refusal
+match-good : (es : List (List ℕ)) (h : Header) → verdictOf (firstMatch es h) ≡ good
+unfolding firstMatch
+match-good [] h = refl
+match-good (e ∷ es) h = by-match (matches (fields e) h) (match-good es h)
+  where
+    by-match : (m : Bool) → verdictOf (firstMatch es h) ≡ good → verdictOf (cond m (Stream (fields e .handle)) (firstMatch es h)) ≡ good
+    by-match true later = refl
+    by-match false later = later
+
+pub told : (t : List ℕ) (h : Header) {r : Found} → r ≡ walked t h → tableVerdict t ≡ verdictOf r
+unfolding walked
+told t h e = rw e (by-verdict (tableVerdict t))
+  where
+    by-verdict : (v : Verdict) → v ≡ verdictOf (foundBy v (firstMatch (entries t) h))
+    by-verdict good = sym (match-good (entries t) h)
+    by-verdict (refuse n) = refl
+
+-- the verdict that the answer of a check tells
+checked-good : (v : Verdict) → Checked.Good ≡ checkedBy v → v ≡ good
+checked-good good e = refl
+checked-good (refuse n) e = cc
+
+checked-refused : (v : Verdict) {n : ℕ} → Checked.Refused n ≡ checkedBy v → v ≡ refuse n
+checked-refused good e = cc
+checked-refused (refuse m) e = cc
+
+then-good : (v : Verdict) → v then good ≡ v
+unfolding _then_
+then-good good = refl
+then-good (refuse n) = refl
+
+module _ (t o : List ℕ) where
+  -- the frame is good: the walk answers
+  pub walk-answers : {h : Header} → Reading.Frame h ≡ reading o → LooksUp t o (walked t h)
+  unfolding lookupOf walked
+  walk-answers e = let g = frame-good o e in simp (g .0, g .1, then-good)
+
+  -- the frame is not: its refusal stands behind the table's
+  pub frame-refused : {n : ℕ} → Reading.Refused n ≡ reading o → Checks t Checked.Good → LooksUp t o (Refused n)
+  unfolding lookupOf _then_
+  frame-refused e g = simp (checked-good (tableVerdict t) g, refused-by o e)
+
+  pub table-refused : {n : ℕ} → Checks t (Checked.Refused n) → LooksUp t o (Refused n)
+  unfolding lookupOf _then_
+  table-refused g = simp (checked-refused (tableVerdict t) g)

@@ -1,0 +1,4 @@
+pub mod Table
+pub mod Match
+pub mod Lookup
+pub mod Inner
