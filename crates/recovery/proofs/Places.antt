@@ -1,0 +1,67 @@
+-- The statement about places (document 01, demand 3), shown of the calls: `places`, below. It stands on the definitions of
+-- `specs/Places.antt`, which packets pass and what is counted, and of `specs/Spans.antt`, what a span is and what is said of it. Beside it
+-- stand the laws that the definitions mean what they say: `Nearest` (no other place with that number is nearer), `Left` (what the window
+-- has left is left for good), `Sum` (the sum closes, of the definitions alone) and `Example` (document 01's figures). Assumes nothing.
+use mathlib.Core.Path.{_≡_}
+use mathlib.Core.Bool.{true}
+use mathlib.Core.List.{List, _∷_}
+use Prim.Native.Nat.{_≤_}
+use native.Mathlib.Omega.{arith}
+use Rattle.recovery.specs.declared.State.{State}
+use Rattle.recovery.specs.declared.Packet.{Packet}
+use Rattle.recovery.specs.declared.Packet.the-variants.{Numbered, Tagless}
+use Rattle.recovery.specs.Setup.{isVector}
+use Rattle.recovery.specs.Rules.{packetOf}
+use Rattle.recovery.specs.Places.{passed}
+use Rattle.recovery.specs.Spans.{Span, starts, hears, ticks, latent-resets, latent-tests, SixteenBits, numbers, taken, Accounts}
+use Start.{started}
+use Run.{Tracks, starts-tracks, numbered-tracks, tagless-tracks, tick-tracks, latent-tracks, range, verdict-there}
+use Sum.{closes}
+pub mod Among
+pub mod Counting
+pub mod Passing
+pub mod Sum
+pub mod Nearest
+pub mod Digits
+pub mod Example
+pub mod Shown
+pub mod Step
+pub mod Left
+pub mod OnePacket
+pub mod Quiet
+pub mod Run
+pub mod Start
+
+-- what the state keeps, after these packets
+After : State → List Packet → State → Type 0
+After start packets s = Tracks start (passed (start .setup .history) (numbers packets)) (taken (start .setup) packets) s
+
+module _ (start : State) (rule : isVector (start .setup) ≡ true) where
+  heard-after : (packets : List Packet) (s : State) (p : Packet) → SixteenBits p → After start packets s
+      → After start (p ∷ packets) (packetOf s p .state)
+  unfolding After numbers passed taken
+  heard-after packets s (Numbered number) bits track = numbered-tracks start rule _ _ s track number bits
+  heard-after packets s Tagless bits track = tagless-tracks start rule _ _ s track
+
+  run : (packets : List Packet) (s : State) → Span start packets s → After start packets s
+  unfolding After numbers passed taken
+  run packets s (starts b) = starts-tracks start rule (started start b .0) (started start b .1)
+  run packets s (hears {packets = older} {s = t} {p = p} span bits e) = rw e (heard-after older t p bits (run older t span))
+  run packets s (ticks {s = t} span e on) = rw e (tick-tracks start rule _ _ t (run packets t span) (rw e at on))
+  run packets s (latent-resets {s = t} span e) = rw e (latent-tracks start rule _ _ t (run packets t span))
+  run packets s (latent-tests span e) = run packets s span
+
+-- Under the vector rule, after each event from a fresh start or a reset to the next, for every history length that a setup allows, every
+-- first number and a span of any length.
+pub places : (start : State) (packets : List Packet) (s : State) → isVector (start .setup) ≡ true → Span start packets s
+    → Accounts start packets s
+unfolding After
+places start packets s rule span =
+    let track : After start packets s = run start rule packets s span in
+    let h : (1 ≤ start .setup .history) × (start .setup .history ≤ 32768) = range start rule _ _ s track in
+    record {
+      next = verdict-there start rule _ _ s track;
+      passed-grown = track .passed-grown;
+      lost-grown = track .lost-grown;
+      sum-closes = closes (start .setup .history) (numbers packets) (omega arith) (omega arith);
+    }

@@ -1,0 +1,126 @@
+-- What the state keeps over a span: it is sound, its setup is the start's, and its newest number, marks and counters stand for the places.
+-- Assumes nothing.
+use mathlib.Core.Path.{_≡_, refl, sym, ap, _∙_}
+use mathlib.Core.Bool.{Bool, true, cond}
+use mathlib.Core.List.{List, []}
+use Prim.Native.Nat.{ℕ, _+_, _%_, _^_, _≤_, _<_}
+use native.Mathlib.Nat.{add-assoc, add-zero, mod-add-mod, mod-mod}
+use native.Mathlib.Omega.{arith}
+use lib.Dec.{eqb}
+use lib.ListN.{length}
+use Rattle.recovery.specs.declared.Setup.{Setup}
+use Rattle.recovery.specs.declared.State.{State}
+use Rattle.recovery.specs.declared.Packet.the-variants.{Numbered, Tagless}
+use Rattle.recovery.specs.declared.Heard.{Heard}
+use Rattle.recovery.specs.declared.Verdict.the-variants.{Pass, Discard}
+use Rattle.recovery.specs.declared.Ticked.the-variants.{Reset}
+use Rattle.recovery.specs.Setup.{isVector}
+use Rattle.recovery.specs.State.{plus, sound}
+use Rattle.recovery.specs.Rules.{numbered, counted, settled, heard, packetOf}
+use Rattle.recovery.specs.Timer.{tickOf}
+use Rattle.recovery.specs.Latent.{rebased, latentResetOf}
+use Rattle.recovery.specs.Promises.{Hears}
+use Rattle.recovery.specs.Places.{passes, after, lost}
+use Rattle.recovery.specs.Spans.{Grown}
+use Rattle.recovery.proofs.SetupLaws.{in-range}
+use Rattle.recovery.proofs.SoundLaws.{Sound, sound-says}
+use Rattle.recovery.proofs.SoundCalls.{packet-answers, tick-answers, latent-reset-answers}
+use Rattle.recovery.proofs.SoundKept.{heard-sound, timed-sound, rebased-sound}
+use Rattle.recovery.proofs.Places.Step.{Steps, lost-none}
+use Rattle.recovery.proofs.Places.OnePacket.{Stands, stands-of, numbered-steps, one-more, untouched}
+use Rattle.recovery.proofs.Places.Quiet.{Alike, tick-alike, latent-alike}
+
+pub record Tracks (start : State) (ps : List ℕ) (tags : ℕ) (s : State) : Type 0 where
+  pub still-sound : sound s ≡ true
+  pub same-setup : s .setup ≡ start .setup
+  pub stands : Stands (start .setup .history) ps (s .«take_any») (s .newest) (s .marks)
+  pub passed-grown : Grown (start .counters .passed) (length ps + tags) (s .counters .passed)
+  pub lost-grown : Grown (start .counters .lost) (lost (start .setup .history) ps) (s .counters .lost)
+
+-- a counter that has grown, and grows once more
+grown-more : (a n b m : ℕ) → Grown a n b → Grown a (n + m) (plus b m)
+unfolding plus
+grown-more a n b m g =
+    mod-mod (b + m) (2 ^ 64) ∙ sym (mod-add-mod b (2 ^ 64) m) ∙ ap (λ (x : ℕ). (x + m) % 2 ^ 64) g
+    ∙ mod-add-mod (a + n) (2 ^ 64) m ∙ ap (λ (x : ℕ). x % 2 ^ 64) (add-assoc a n m)
+
+module _ (start : State) (rule : isVector (start .setup) ≡ true) where
+  abbrev h : ℕ
+  h = start .setup .history
+
+  pub starts-tracks : sound start ≡ true → start .«take_any» ≡ true → Tracks start [] 0 start
+  starts-tracks fine any =
+      record {
+        still-sound = fine;
+        same-setup = refl;
+        stands = any;
+        passed-grown = rw (add-zero (start .counters .passed));
+        lost-grown = rw (lost-none h, add-zero (start .counters .lost));
+      }
+
+  module _ (ps : List ℕ) (tags : ℕ) (s : State) (track : Tracks start ps tags s) where
+    ok : Sound s
+    ok = sound-says s (track .still-sound)
+
+    -- all that the places ask of the history length
+    pub range : (1 ≤ h) × (h ≤ 32768)
+    range = omega (arith, rw (track .same-setup) at (in-range (s .setup) (ok .in-range) .history))
+
+    numbered-there : (number : ℕ) → number < 65536 → Steps h ps number (numbered s number)
+    numbered-there number bits =
+        let same : s .setup .history ≡ h = ap (λ (c : Setup). c .history) (track .same-setup) in
+        numbered-steps s h ps number same (rw (track .same-setup) rule) (range .0) (range .1) bits (track .stands)
+
+    pub verdict-there : (number : ℕ) (r : Heard) → number < 65536 → Hears s (Numbered number) r
+        → r .verdict ≡ cond (passes h ps number) Pass Discard
+    unfolding heard settled
+    verdict-there number r bits e =
+        rw (e, packet-answers s (track .still-sound) (Numbered number))
+        (ap (λ (t : Bool). cond t Pass Discard) (numbered-there number bits .verdict))
+
+    pub numbered-tracks : (number : ℕ) → number < 65536 → Tracks start (after h ps number) tags (packetOf s (Numbered number) .state)
+    unfolding heard settled counted
+    numbered-tracks number bits =
+        let st : Steps h ps number (numbered s number) = numbered-there number bits in
+        let more : ℕ = cond (passes h ps number) 1 0 in
+        let sum : length ps + more + tags ≡ length ps + tags + more = omega arith in
+        rw (packet-answers s (track .still-sound) (Numbered number))
+        (record {
+          still-sound = heard-sound s ok (Numbered number);
+          same-setup = track .same-setup;
+          stands = stands-of h (after h ps number) _ _ (st .follows);
+          passed-grown = rw (one-more h ps number, st .verdict, sum) (grown-more _ _ _ more (track .passed-grown));
+          lost-grown = rw (st .loses) (grown-more _ _ _ (numbered s number .lost) (track .lost-grown));
+        })
+
+    pub tagless-tracks : Tracks start ps (tags + cond (eqb (start .setup .taken) 1) 1 0) (packetOf s Tagless .state)
+    unfolding heard settled counted
+    tagless-tracks =
+        let more : ℕ = cond (eqb (start .setup .taken) 1) 1 0 in
+        let still = untouched (s .setup .taken) (s .newest) (s .marks) in
+        rw (packet-answers s (track .still-sound) Tagless)
+        (record {
+          still-sound = heard-sound s ok Tagless;
+          same-setup = track .same-setup;
+          stands = rw (still .same-newest, still .same-marks) (track .stands);
+          passed-grown = rw (still .if-taken, track .same-setup, ← add-assoc (length ps) tags more) (grown-more _ _ _ more (track .passed-grown));
+          lost-grown = rw (still .loses-none, ← add-zero (lost h ps)) (grown-more _ _ _ 0 (track .lost-grown));
+        })
+
+    -- what leaves all that as it was keeps it
+    alike-tracks : (next : State) → Alike s next → sound next ≡ true → Tracks start ps tags next
+    alike-tracks next same fine =
+        record {
+          still-sound = fine;
+          same-setup = same .0 ∙ track .same-setup;
+          stands = rw (same .1, same .2, same .3) (track .stands);
+          passed-grown = rw (same .4) (track .passed-grown);
+          lost-grown = rw (same .5) (track .lost-grown);
+        }
+
+    pub tick-tracks : (tickOf s .ticked ≡ Reset → ⊥) → Tracks start ps tags (tickOf s .state)
+    tick-tracks on =
+        alike-tracks (tickOf s .state) (tick-alike s (track .still-sound) on) (rw (tick-answers s (track .still-sound)) (timed-sound s ok))
+
+    pub latent-tracks : Tracks start ps tags (latentResetOf s .state)
+    latent-tracks = rw (latent-reset-answers s (track .still-sound)) (alike-tracks (rebased s) (latent-alike s) (rebased-sound s ok))

@@ -1,0 +1,22 @@
+-- Which rule a packet with a number falls under. Assumes nothing.
+use Prim.Native.Nat.{ℕ}
+use mathlib.Core.Path.{_≡_, _∙_}
+use mathlib.Core.Bool.{true, false}
+use Rattle.recovery.specs.declared.State.{State}
+use Rattle.recovery.specs.Setup.{isVector}
+use Rattle.recovery.specs.Vector.{vector}
+use Rattle.recovery.specs.Rules.{first, match, numbered}
+use Rattle.recovery.proofs.BoolLaws.{choose-first, choose-second}
+
+module _ (s : State) (number : ℕ) where
+  pub by-take-any : s .«take_any» ≡ true → numbered s number ≡ first s number
+  unfolding numbered
+  by-take-any e = choose-first _ _ e
+
+  pub by-vector : s .«take_any» ≡ false → isVector (s .setup) ≡ true → numbered s number ≡ vector (s .setup .history) (s .newest) (s .marks) number
+  unfolding numbered
+  by-vector e v = choose-second _ _ e ∙ choose-first _ _ v
+
+  pub by-match : s .«take_any» ≡ false → isVector (s .setup) ≡ false → numbered s number ≡ match (s .newest) (s .marks) number
+  unfolding numbered
+  by-match e v = choose-second _ _ e ∙ choose-second _ _ v

@@ -1,0 +1,13 @@
+-- `State::anew` meets its contract. Assumes nothing.
+use mathlib.Core.Path.{_∙_}
+use Rattle.recovery.specs.State.{plus, resetCounted, resetState}
+use borrow.Author.Needs.{needs}
+use Rattle.recovery.proofs.State.anew.Statement.{statement}
+use Rattle.recovery.proofs.State.anew.Tie as tie
+
+returns : tie.Need-returns
+unfolding plus resetCounted resetState
+returns c = c .clear .ensures ∙ rw (c .before .wrapping-add-u64 .ensures)
+
+pub anew-spec : {M : Type 1} → statement M
+anew-spec = tie.close (tie.spec (λ c κs. search needs) (λ c κs. search needs) returns)

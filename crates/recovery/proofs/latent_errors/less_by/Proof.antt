@@ -1,0 +1,13 @@
+-- `latent_errors::less_by` meets its contract. Assumes nothing.
+use native.Mathlib.Omega.{arith}
+use Rattle.recovery.specs.Latent.{less}
+use borrow.Author.Needs.{needs}
+use Rattle.recovery.proofs.latent_errors.less_by.Statement.{statement}
+use Rattle.recovery.proofs.latent_errors.less_by.Tie as tie
+
+returns : tie.Need-returns
+unfolding less
+returns c = omega arith
+
+pub less-by-spec : {M : Type 1} → statement M
+less-by-spec = tie.close (tie.spec (λ c κs. search needs) returns)

@@ -1,0 +1,15 @@
+pub mod Marks
+pub mod Difference
+pub mod Vector
+pub mod Ticks
+pub mod Setup
+pub mod Generator
+pub mod State
+pub mod Timer
+pub mod Rules
+pub mod Latent
+pub mod Promises
+pub mod Effect
+pub mod Calls
+pub mod Places
+pub mod Spans

@@ -1,0 +1,74 @@
+-- A span (document 01, demand 3), and what is said of it. A span goes from a fresh start or a reset (a timeout is one, a latent
+-- reset is not) to the next. Each of its steps is one call, of which only that call's promise is known. Assumes nothing.
+use Prim.Native.Nat.{ℕ, _+_, _%_, _^_, _<_}
+use mathlib.Core.Path.{_≡_}
+use mathlib.Core.Bool.{cond}
+use mathlib.Core.List.{List, [], _∷_}
+use lib.Dec.{eqb}
+use lib.ListN.{length}
+use Rattle.recovery.specs.declared.Setup.{Setup}
+use Rattle.recovery.specs.declared.State.{State}
+use Rattle.recovery.specs.declared.Begun.the-variants.{Ready}
+use Rattle.recovery.specs.declared.Packet.{Packet}
+use Rattle.recovery.specs.declared.Packet.the-variants.{Numbered, Tagless}
+use Rattle.recovery.specs.declared.Heard.{Heard}
+use Rattle.recovery.specs.declared.Verdict.the-variants.{Pass, Discard}
+use Rattle.recovery.specs.declared.Timed.{Timed}
+use Rattle.recovery.specs.declared.Ticked.the-variants.{Reset}
+use Rattle.recovery.specs.declared.Changed.{Changed}
+use Rattle.recovery.specs.declared.Change.the-variants.{Done}
+use Rattle.recovery.specs.declared.Latent.{Latent}
+use Rattle.recovery.specs.Promises.{Begins, Hears, Times, Resets, LatentResets, LatentTests}
+use Rattle.recovery.specs.Places.{passes, passed, window, movedOn, lost, stillOpen}
+
+-- the state that a fresh start, a reset or a timeout hands back
+pub data Starts : State → Type 0 where
+  fresh : (setup : Setup) {s : State} → Begins setup (Ready s) → Starts s
+  reset : (s : State) {r : Changed} → Resets s r → r .change ≡ Done → Starts (r .state)
+  timeout : (s : State) {r : Timed} → Times s r → r .ticked ≡ Reset → Starts (r .state)
+
+-- a packet's number has 16 bits
+abbrev pub SixteenBits : Packet → Type 0
+SixteenBits (Numbered number) = number < 65536
+SixteenBits Tagless = Unit
+
+-- the packets since the start, latest first, and the state after them: between packets there may be ticks that do not time out, latent
+-- resets and latent tests
+pub data Span (start : State) : List Packet → State → Type 0 where
+  starts : Starts start → Span start [] start
+  hears : {packets : List Packet} {s : State} {p : Packet} {r : Heard} →
+      Span start packets s → SixteenBits p → Hears s p r → Span start (p ∷ packets) (r .state)
+  ticks : {packets : List Packet} {s : State} {r : Timed} →
+      Span start packets s → Times s r → (r .ticked ≡ Reset → ⊥) → Span start packets (r .state)
+  latent-resets : {packets : List Packet} {s : State} {r : Changed} →
+      Span start packets s → LatentResets s r → Span start packets (r .state)
+  latent-tests : {packets : List Packet} {s : State} {r : Latent} →
+      Span start packets s → LatentTests s r → Span start packets s
+
+-- the numbers of the numbered packets
+unfoldable pub numbers : List Packet → List ℕ
+numbers [] = []
+numbers (Numbered number ∷ older) = number ∷ numbers older
+numbers (Tagless ∷ older) = numbers older
+
+-- how many packets without a number are taken
+unfoldable pub taken : Setup → List Packet → ℕ
+taken setup [] = 0
+taken setup (Numbered number ∷ older) = taken setup older
+taken setup (Tagless ∷ older) = taken setup older + cond (eqb (setup .taken) 1) 1 0
+
+-- a counter has grown by n modulo 2^64
+abbrev pub Grown : ℕ → ℕ → ℕ → Type 0
+Grown before n now = now % 2 ^ 64 ≡ (before + n) % 2 ^ 64
+
+-- Demand 3 of the state after the packets, with `places` those that the places' rule lets pass: the next numbered packet gets the verdict
+-- that the places say, whatever it is; passed has grown by the places passed and the packets taken without a number, and lost by the
+-- places lost; and the sum closes. What has happened in a span up to any one event is a span, so this is said after each event.
+pub record Accounted (h : ℕ) (places : List ℕ) (start : State) (packets : List Packet) (s : State) : Type 0 where
+  pub next : (number : ℕ) (r : Heard) → number < 65536 → Hears s (Numbered number) r → r .verdict ≡ cond (passes h places number) Pass Discard
+  pub passed-grown : Grown (start .counters .passed) (length places + taken (start .setup) packets) (s .counters .passed)
+  pub lost-grown : Grown (start .counters .lost) (lost h places) (s .counters .lost)
+  pub sum-closes : window h places + movedOn places ≡ length places + lost h places + stillOpen h places
+
+abbrev pub Accounts : State → List Packet → State → Type 0
+Accounts start packets s = Accounted (start .setup .history) (passed (start .setup .history) (numbers packets)) start packets s

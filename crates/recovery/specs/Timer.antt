@@ -1,0 +1,41 @@
+-- The timer: when a packet restarts it, and the tick (document 01, "Numbering and recovery"). Assumes nothing.
+use Prim.Native.Nat.{ℕ, _-_}
+use mathlib.Core.Bool.{Bool, cond}
+use lib.Dec.{eqb}
+use Rattle.recovery.specs.declared.Ticks.{Ticks}
+use Rattle.recovery.specs.declared.Setup.{Setup}
+use Rattle.recovery.specs.declared.State.{State}
+use Rattle.recovery.specs.declared.Timed.{Timed}
+use Rattle.recovery.specs.declared.Ticked.the-variants as ticked
+use Rattle.recovery.specs.Setup.{fullOf}
+use Rattle.recovery.specs.State.{sound, resetState}
+
+-- only a passed packet sets ticks left to full ticks, whatever the use
+unfoldable pub restarted : Bool → Setup → Ticks → Ticks
+restarted passes setup left = cond passes (fullOf setup) left
+
+-- the state with other ticks left
+abbrev pub withLeft : ℕ → State → State
+withLeft left s =
+    record {
+      setup = s .setup;
+      newest = s .newest;
+      marks = s .marks;
+      «take_any» = s .«take_any»;
+      left = record { 0 = left };
+      counters = s .counters;
+      base = s .base;
+    }
+
+-- tick: 0 stays 0; from 1 it becomes 0 and a reset follows; else less 1
+unfoldable pub timed : State → Timed
+timed s =
+    cond (eqb (s .left .0) 0)
+    (record { ticked = ticked.Tick; state = s })
+    (cond (eqb (s .left .0) 1)
+    (record { ticked = ticked.Reset; state = resetState (withLeft 0 s) })
+    (record { ticked = ticked.Tick; state = withLeft (s .left .0 - 1) s }))
+
+-- the call `tick`: a state that is not sound answers 14 and comes back as it was
+unfoldable pub tickOf : State → Timed
+tickOf s = cond (sound s) (timed s) (record { ticked = ticked.Refused 14; state = s })

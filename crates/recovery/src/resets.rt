@@ -1,0 +1,77 @@
+// A fresh state, and a reset.
+ghost use mathlib.Core.Path.{_≡_};
+ghost use Rattle.recovery.specs.State.{cleared, resetState};
+ghost use Rattle.recovery.specs.Promises.{Begins, Resets};
+use crate::Begun;
+use crate::Change;
+use crate::Changed;
+use crate::Counters;
+use crate::Setup;
+use crate::State;
+use crate::Ticks;
+
+// What fresh and reset have in common.
+fn clear(setup: Setup, counters: Counters, base: u64) -> State
+    ensures { λ r. ⌜ r ≡ cleared setup counters base ⌝ }
+{
+    let left = Ticks(0);
+    State {
+        setup,
+        newest: 65535,
+        marks: 0,
+        take_any: true,
+        left,
+        counters,
+        base,
+    }
+}
+
+impl State {
+    // A state that counts no reset yet, or the setup's refusal.
+    pub fn fresh(setup: Setup) -> Begun
+        ensures { λ r. ⌜ Begins setup r ⌝ }
+    {
+        let refusal = setup.check();
+        if refusal != 0 {
+            return Begun::Refused(refusal);
+        }
+        let counters = Counters {
+            passed: 0,
+            discarded: 0,
+            order: 0,
+            rogue: 0,
+            lost: 0,
+            tagless: 0,
+            resets: 0,
+            latent_resets: 0,
+        };
+        Begun::Ready(clear(setup, counters, 0))
+    }
+
+    // The reset itself, of the call and of a timeout.
+    pub(crate) fn anew(self) -> State
+        ensures { λ r. ⌜ r ≡ resetState self ⌝ }
+    {
+        let setup = self.setup;
+        let mut counters = self.counters;
+        counters.resets = std::num::wrapping_add_u64(counters.resets, 1);
+        clear(setup, counters, self.base)
+    }
+
+    pub fn reset(self) -> Changed
+        ensures { λ r. ⌜ Resets self r ⌝ }
+    {
+        if self.is_sound() {
+            let state = self.anew();
+            Changed {
+                change: Change::Done,
+                state,
+            }
+        } else {
+            Changed {
+                change: Change::Refused(14),
+                state: self,
+            }
+        }
+    }
+}
