@@ -1,0 +1,11 @@
+pub mod And
+pub mod Either
+pub mod Kind
+pub mod Width
+pub mod Alone
+pub mod Walk
+pub mod Rounded
+pub mod Between
+pub mod Bounds
+pub mod Unique
+pub mod Examples

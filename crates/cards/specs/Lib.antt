@@ -1,0 +1,4 @@
+pub mod Payload
+pub mod Walk
+pub mod Reading
+pub mod Bounds
