@@ -1,0 +1,9 @@
+pub mod Growth
+pub mod Decimal
+pub mod Decided
+pub mod Steps
+pub mod Played
+pub mod Ran
+pub mod Examples
+pub mod Unique
+pub mod NeverFourteen

@@ -1,0 +1,48 @@
+-- A page that holds the output, put into the lent buffer. Assumes nothing.
+use Prim.Native.Nat.{ℕ, _≤_}
+use native.Mathlib.Omega.{arith}
+use mathlib.Core.Path.{_≡_, refl, sym, ap, subst, _∙_}
+use mathlib.Core.Bool.{Bool, true, false, cond}
+use mathlib.Core.List.{List}
+use lib.ListN.{length, take, drop, length-append}
+use borrow.Author.Tests.{le-leb}
+use lib.Seq.{length-take-le}
+use Rattle.octets.specs.Octets.{fits, putIn, Puts}
+use Rattle.tape.specs.declared.Written.{Written}
+use Rattle.tape.specs.declared.Written.the-variants as written
+use Rattle.tape.specs.Page.{Holds}
+use Rattle.tape.specs.Tape.{enough, outputOf, Runs}
+
+-- a length is no refusal, and two lengths that are equal are one
+is : {n m : ℕ} → written.Length n ≡ written.Length m → n ≡ m
+is e = cc
+
+refused : {n m k : ℕ} → written.Length n ≡ written.Refused k → n ≤ m
+refused e = let z : _≡_ {A = ℕ} 0 1 = cc in absurd (omega arith)
+
+pub ran : (tape out : List ℕ) {n : ℕ} {page later : List ℕ} {r : Bool} → Holds (outputOf tape) n page → enough ≡ length page
+    → Puts (take n page) out r later → Runs tape out (cond r (written.Length n) (written.Refused 8)) later
+ran tape out {n} {page} {later} {r} h room p =
+    let put : Puts (outputOf tape) out r later = subst (λ (text : List ℕ). Puts text out r later) (h .texts) p in
+    let long : n ≡ length (outputOf tape) = sym (length-take-le n page (h .within)) ∙ ap length (h .texts) in
+    record {
+      answer = rw (put .answer, long);
+      buffer = put .buffer;
+      suffices = omega (arith, h .within);
+    }
+
+-- a length that is answered fits the buffer
+pub within : (tape out : List ℕ) {n : ℕ} {later : List ℕ} → Runs tape out (written.Length n) later → n ≤ length later
+within tape out {n} {later} p = by (fits (outputOf tape) out) refl
+  where
+    by : (b : Bool) → fits (outputOf tape) out ≡ b → n ≤ length later
+    by true e =
+        let long : n ≡ length (outputOf tape) = is (rw e at (p .answer)) in
+        let put : later ≡ putIn (outputOf tape) out = rw e at (p .buffer) in
+        omega (arith, ap length put, length-append (outputOf tape) (drop (length (outputOf tape)) out))
+    by false e = refused (rw e at (p .answer))
+
+-- a buffer of `enough` octets is never refused
+pub enough-room : (tape out : List ℕ) {r : Written} {later : List ℕ} → Runs tape out r later → enough ≤ length out
+    → r ≡ written.Length (length (outputOf tape))
+enough-room tape out p room = p .answer ∙ rw (le-leb (length (outputOf tape)) (length out) (omega (arith, p .suffices)))

@@ -1,0 +1,12 @@
+-- `tape::event::known` meets its contract. Assumes nothing.
+use borrow.Author.Needs.{needs}
+use Rattle.tape.specs.Events.{known}
+use Rattle.tape.proofs.event.known.Statement.{statement}
+use Rattle.tape.proofs.event.known.Tie as tie
+
+returns : tie.Need-returns
+unfolding known
+returns c = search needs
+
+pub known-spec : {M : Type 1} → statement M
+known-spec = tie.close (tie.spec returns)
