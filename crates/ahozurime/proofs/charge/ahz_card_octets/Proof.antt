@@ -1,0 +1,14 @@
+-- `ahz_card_octets` meets its promise: the length of the part that the room hands back. Assumes nothing.
+use mathlib.Core.Path.{ap}
+use mathlib.Core.List.{List}
+use Prim.Native.Nat.{ℕ}
+use lib.ListN.{length}
+use borrow.Author.Needs.{needs}
+use Rattle.ahozurime.proofs.charge.ahz_card_octets.Statement.{statement}
+use Rattle.ahozurime.proofs.charge.ahz_card_octets.Tie as tie
+
+returns : tie.Need-returns
+returns c = ap (λ (l : List ℕ). length l) (c .part .ensures .holds)
+
+pub ahz-card-octets-spec : {M : Type 1} → statement M
+ahz-card-octets-spec = tie.close (tie.spec (λ c κs. search needs) returns)

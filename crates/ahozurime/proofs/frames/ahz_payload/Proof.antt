@@ -1,0 +1,14 @@
+-- `ahz_payload` meets its promise: the length of the part that the room hands back. Assumes nothing.
+use mathlib.Core.Path.{ap}
+use mathlib.Core.List.{List}
+use Prim.Native.Nat.{ℕ}
+use lib.ListN.{length}
+use borrow.Author.Needs.{needs}
+use Rattle.ahozurime.proofs.frames.ahz_payload.Statement.{statement}
+use Rattle.ahozurime.proofs.frames.ahz_payload.Tie as tie
+
+returns : tie.Need-returns
+returns c = ap (λ (l : List ℕ). length l) (c .payload .ensures .holds)
+
+pub ahz-payload-spec : {M : Type 1} → statement M
+ahz-payload-spec = tie.close (tie.spec (λ c κs. search needs) returns)

@@ -1,0 +1,23 @@
+-- `ahz_tape` meets its promise: each arm answers as the room did. Assumes nothing.
+use borrow.Author.Needs.{needs}
+use Rattle.ahozurime.proofs.TapeTold.{tape-told}
+use Rattle.ahozurime.proofs.tapes.ahz_tape.Statement.{statement}
+use Rattle.ahozurime.proofs.tapes.ahz_tape.Tie as tie
+
+returns : tie.Need-returns
+returns c = let at = c .before in tape-told _ _ (rw (at .n .given .1) at (at .before .before .before .before .run .ensures))
+
+returns-2 : tie.Need-returns-2
+returns-2 c = let at = c .before in tape-told _ _ (rw (at .no .given .1) at (at .before .before .before .before .run .ensures))
+
+pub ahz-tape-spec : {M : Type 1} → statement M
+ahz-tape-spec =
+    tie.close
+    (tie.spec
+    (λ c κs. search needs)
+    (λ c. search needs)
+    (λ c. search needs)
+    (λ c. search needs)
+    returns
+    (λ c. search needs)
+    returns-2)
