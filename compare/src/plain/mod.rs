@@ -1,0 +1,18 @@
+//! The link layer in plain Rust, one module for each chapter of document 01.
+//!
+//! A refusal is the paper's number ("When the layer says no"), so every call that can refuse
+//! answers `Result<_, u8>`.
+
+#![forbid(unsafe_code)]
+
+pub mod cards;
+pub mod frame;
+pub mod recovery;
+pub mod streams;
+pub mod tape;
+
+/// "All numbers in octets are big-endian."
+#[inline]
+fn be16(octets: &[u8], at: usize) -> u16 {
+    u16::from_be_bytes([octets[at], octets[at + 1]])
+}

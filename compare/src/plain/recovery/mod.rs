@@ -1,0 +1,10 @@
+//! "Numbering and recovery": the generator, the setup, and a recovery state with its steps.
+
+mod generator;
+mod setup;
+mod state;
+mod steps;
+
+pub use generator::Generator;
+pub use setup::{full_ticks, Milliseconds, Setup, Ticks, LONGEST_HISTORY, MATCH, VECTOR};
+pub use state::{Counters, State, Verdict};

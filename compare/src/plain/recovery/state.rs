@@ -1,0 +1,112 @@
+use super::setup::{Setup, Ticks, LONGEST_HISTORY, VECTOR};
+
+pub(super) const NEWEST_AT_RESET: u16 = u16::MAX;
+
+/// What became of a packet.
+#[derive(Clone, Copy, Debug, PartialEq, Eq)]
+pub enum Verdict {
+    Pass,
+    Discard,
+}
+
+/// "Eight 64-bit counters that wrap."
+#[derive(Clone, Copy, Debug, Default, PartialEq, Eq)]
+pub struct Counters {
+    pub passed: u64,
+    pub discarded: u64,
+    pub order: u64,
+    pub rogue: u64,
+    pub lost: u64,
+    pub tagless: u64,
+    pub resets: u64,
+    pub latent_resets: u64,
+}
+
+/// A recovery state. Any values may be handed in; a step refuses 14 where they are not sound.
+#[derive(Clone, Copy, Debug, PartialEq, Eq)]
+pub struct State {
+    pub setup: Setup,
+    pub newest: u16,
+    /// Mark i, for the place i below the newest, is bit i.
+    pub marks: u64,
+    pub take_any: bool,
+    pub ticks_left: Ticks,
+    pub counters: Counters,
+    /// The latent base.
+    pub base: i64,
+}
+
+impl State {
+    /// The setup is handed in by itself, so it is refused by its own numbers.
+    #[inline]
+    pub fn fresh(setup: Setup) -> Result<State, u8> {
+        setup.check()?;
+        Ok(State {
+            setup,
+            newest: NEWEST_AT_RESET,
+            marks: 0,
+            take_any: true,
+            ticks_left: Ticks(0),
+            counters: Counters::default(),
+            base: 0,
+        })
+    }
+
+    /// The paragraph "Sound state". Under take-any the ticks may still run: a packet without a
+    /// number that passed has set them.
+    #[inline]
+    pub fn is_sound(&self) -> bool {
+        if self.setup.check().is_err() || self.ticks_left > self.setup.full_ticks() {
+            return false;
+        }
+        if self.take_any {
+            self.newest == NEWEST_AT_RESET && self.marks == 0
+        } else {
+            self.ticks_left >= Ticks(1)
+                && match self.setup.rule {
+                    VECTOR => self.marks & 1 == 1 && self.marks & !self.window() == 0,
+                    _ => self.marks == 0,
+                }
+        }
+    }
+
+    #[inline]
+    pub(super) fn check(&self) -> Result<(), u8> {
+        if self.is_sound() {
+            Ok(())
+        } else {
+            Err(14)
+        }
+    }
+
+    /// The bits of marks 0 to H - 1, for an H in range.
+    pub(super) fn window(&self) -> u64 {
+        u64::MAX >> (LONGEST_HISTORY - self.setup.history)
+    }
+
+    /// One packet with its number, or without one.
+    #[inline]
+    pub fn packet(mut self, number: Option<u16>) -> Result<(State, Verdict), u8> {
+        let verdict = self.packet_in_place(number)?;
+        Ok((self, verdict))
+    }
+
+    /// One tick, and whether it timed out.
+    #[inline]
+    pub fn tick(mut self) -> Result<(State, bool), u8> {
+        let timed_out = self.tick_in_place()?;
+        Ok((self, timed_out))
+    }
+
+    #[inline]
+    pub fn reset(mut self) -> Result<State, u8> {
+        self.reset_in_place()?;
+        Ok(self)
+    }
+
+    #[inline]
+    pub fn latent_reset(mut self) -> Result<State, u8> {
+        self.latent_reset_in_place()?;
+        Ok(self)
+    }
+}

@@ -1,0 +1,133 @@
+//! "The bench tape": a tape of octets run against the layer, and the lines it prints.
+
+use super::be16;
+use super::recovery::{Counters, Milliseconds, Setup, State, Verdict};
+use std::io::Write;
+
+pub const LONGEST: usize = 4_096;
+
+const PACKET: u8 = 0x01;
+const NO_NUMBER: u8 = 0x02;
+const TICK: u8 = 0x03;
+const RESET: u8 = 0x04;
+const LATENT_RESET: u8 = 0x05;
+const LATENT_TEST: u8 = 0x06;
+const SETUP: u8 = 0x0F;
+
+fn body_length(kind: u8) -> Option<usize> {
+    match kind {
+        PACKET => Some(2),
+        NO_NUMBER..=LATENT_TEST => Some(0),
+        SETUP => Some(15),
+        _ => None,
+    }
+}
+
+/// The lines of a tape, each with its newline. Never a refusal: a fault is a line, and the last
+/// one.
+pub fn lines(tape: &[u8]) -> Vec<u8> {
+    let mut out = Vec::with_capacity(tape.len().min(LONGEST) * 8 + 256);
+    match play(tape, &mut out) {
+        Ok(counters) => put_counters(&mut out, &counters),
+        Err(number) => put(&mut out, format_args!("fault {number}")),
+    }
+    out
+}
+
+/// The lines written to a lent buffer, and their length. Refuses 8, and only 8, where the buffer is
+/// shorter than the lines; it then stays as it was.
+pub fn run(tape: &[u8], out: &mut [u8]) -> Result<usize, u8> {
+    let lines = lines(tape);
+    out.get_mut(..lines.len()).ok_or(8)?.copy_from_slice(&lines);
+    Ok(lines.len())
+}
+
+fn put(out: &mut Vec<u8>, line: std::fmt::Arguments) {
+    writeln!(out, "{line}").expect("a vector takes every octet");
+}
+
+/// Prints the events' lines up to the end or the first fault. "26 is checked before all else", then
+/// 23, 24, 25 for each event; an empty tape has no setup.
+fn play(tape: &[u8], out: &mut Vec<u8>) -> Result<Counters, u8> {
+    if tape.len() > LONGEST {
+        return Err(26);
+    }
+    let mut rest = tape;
+    let mut state: Option<State> = None;
+    while let Some((&kind, behind)) = rest.split_first() {
+        let length = body_length(kind).ok_or(23)?;
+        let (body, behind) = behind.split_at_checked(length).ok_or(24)?;
+        let line = match (kind, &mut state) {
+            (SETUP, None) => {
+                state = Some(State::fresh(setup(body))?);
+                "ok\n"
+            }
+            (SETUP, Some(_)) | (_, None) => return Err(25),
+            (_, Some(state)) => event(state, kind, body)?,
+        };
+        out.extend_from_slice(line.as_bytes());
+        rest = behind;
+    }
+    state.map(|state| state.counters).ok_or(25)
+}
+
+/// Rule 1, taken 1, H 2, ms 4, ticks 2, paths 1, difference 4.
+fn setup(body: &[u8]) -> Setup {
+    let be32 = |at| u32::from_be_bytes([body[at], body[at + 1], body[at + 2], body[at + 3]]);
+    Setup {
+        rule: body[0],
+        taken: body[1],
+        history: be16(body, 2),
+        timeout: Milliseconds(be32(4)),
+        ticks_per_second: be16(body, 8),
+        paths: body[10],
+        difference: be32(11),
+    }
+}
+
+/// One event after the setup, and its line.
+fn event(state: &mut State, kind: u8, body: &[u8]) -> Result<&'static str, u8> {
+    Ok(match kind {
+        PACKET => word(state.packet_in_place(Some(be16(body, 0)))?),
+        NO_NUMBER => word(state.packet_in_place(None)?),
+        TICK => timed(state.tick_in_place()?),
+        RESET => {
+            state.reset_in_place()?;
+            "reset\n"
+        }
+        LATENT_RESET => {
+            state.latent_reset_in_place()?;
+            "latent reset\n"
+        }
+        _ if state.latent_test()? => "latent error\n",
+        _ => "latent ok\n",
+    })
+}
+
+/// "`reset` (04, and a tick that timed out)."
+fn timed(out: bool) -> &'static str {
+    if out {
+        "reset\n"
+    } else {
+        "tick\n"
+    }
+}
+
+fn word(verdict: Verdict) -> &'static str {
+    match verdict {
+        Verdict::Pass => "pass\n",
+        Verdict::Discard => "discard\n",
+    }
+}
+
+fn put_counters(out: &mut Vec<u8>, counters: &Counters) {
+    let Counters { passed, discarded, order, rogue, lost, tagless, resets, latent_resets } =
+        counters;
+    put(
+        out,
+        format_args!(
+            "passed={passed} discarded={discarded} order={order} rogue={rogue} lost={lost} \
+             tagless={tagless} resets={resets} latent-resets={latent_resets}"
+        ),
+    );
+}

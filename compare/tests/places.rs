@@ -1,0 +1,359 @@
+//! Recovery against places: every packet of a span gets a place, a signed 64-bit number, and what
+//! has passed, is lost or is still open is counted from the list of packets alone. No mark, no
+//! window of bits and no stored number of the layer is read to find the expected answer.
+//!
+//! The sum behind 01's tape ("4 + 2 = 3 passed + 2 lost + 1 open") is held after each event: H and
+//! the way from the first place to the newest are the passed, the lost and the open places
+//! together.
+
+mod common;
+
+use common::report;
+use compare::plain::recovery::{Counters, Milliseconds, Setup, State, Verdict, MATCH, VECTOR};
+use compare::random::{Random, SEED};
+use std::collections::BTreeSet;
+
+#[derive(Clone, Copy, Debug, PartialEq, Eq)]
+enum Event {
+    Packet(Option<u16>),
+    Tick,
+    Reset,
+    LatentReset,
+    LatentTest,
+}
+
+/// What the layer says to an event: did the packet pass, did the tick time out, is there an error.
+type Answer = Option<bool>;
+
+/// The numbered packets from a reset to the next.
+struct Span {
+    first: i64,
+    newest: i64,
+    /// Every place that has passed; not only those that are near.
+    passed: BTreeSet<i64>,
+    /// Places given up so far, kept by `advance` and counted anew by `recount`.
+    lost: u64,
+}
+
+impl Span {
+    fn starting(number: u16) -> Span {
+        let first = i64::from(number);
+        Span { first, newest: first, passed: BTreeSet::from([first]), lost: 0 }
+    }
+
+    /// The place nearest to the newest that the number can stand for, the lower one at equal
+    /// distance.
+    fn place(&self, number: u16) -> i64 {
+        let ahead = (i64::from(number) - self.newest).rem_euclid(65_536);
+        self.newest + if ahead < 32_768 { ahead } else { ahead - 65_536 }
+    }
+
+    /// The places from one to another, both included, where nothing has passed.
+    fn missing(&self, from: i64, to: i64) -> u64 {
+        if from > to {
+            return 0;
+        }
+        (to - from + 1) as u64 - self.passed.range(from..=to).count() as u64
+    }
+
+    fn advance(&mut self, newest: i64, history: i64) {
+        self.lost += self.missing(self.newest - history + 1, newest - history);
+        self.newest = newest;
+    }
+
+    fn open(&self, history: i64) -> u64 {
+        self.missing(self.newest - history + 1, self.newest)
+    }
+
+    /// All places from the lowest one of the first window to the last one given up.
+    fn recount(&self, history: i64) -> u64 {
+        self.missing(self.first - history + 1, self.newest - history)
+    }
+
+    fn sum_closes(&self, history: i64) -> bool {
+        let places = self.passed.len() as u64 + self.lost + self.open(history);
+        (history + self.newest - self.first) as u64 == places
+    }
+}
+
+/// The whole list of events so far, in the paper's terms.
+struct Model {
+    setup: Setup,
+    full: u64,
+    span: Option<Span>,
+    /// The last number passed in this span, for match.
+    last: Option<u16>,
+    /// Ticks since the last passed packet of this span.
+    since_pass: Option<u64>,
+    counted: Counters,
+    base: i128,
+}
+
+impl Model {
+    fn new(setup: Setup) -> Model {
+        let product = u64::from(setup.timeout.0) * u64::from(setup.ticks_per_second);
+        let full = product / 1000 + u64::from(product % 1000 != 0);
+        let counted = Counters::default();
+        Model { setup, full, span: None, last: None, since_pass: None, counted, base: 0 }
+    }
+
+    fn history(&self) -> i64 {
+        i64::from(self.setup.history)
+    }
+
+    fn event(&mut self, event: Event) -> Answer {
+        match event {
+            Event::Packet(number) => return Some(self.packet(number)),
+            Event::Tick => return Some(self.tick()),
+            Event::Reset => self.reset(),
+            Event::LatentReset => {
+                self.base = self.figure();
+                self.counted.latent_resets += 1;
+            }
+            Event::LatentTest => {
+                let away = (self.base - self.figure()).abs();
+                return Some(away > i128::from(self.setup.difference));
+            }
+        }
+        None
+    }
+
+    fn packet(&mut self, number: Option<u16>) -> bool {
+        let passes = match number {
+            None => {
+                self.counted.tagless += 1;
+                self.setup.taken == 1
+            }
+            Some(number) if self.setup.rule == MATCH => self.by_match(number),
+            Some(number) => self.by_place(number),
+        };
+        if passes {
+            self.counted.passed += 1;
+            self.since_pass = Some(0);
+        } else {
+            self.counted.discarded += 1;
+        }
+        passes
+    }
+
+    fn by_match(&mut self, number: u16) -> bool {
+        let last = self.last.replace(number);
+        let follows = last.map(|last| (u32::from(last) + 1) % 65_536 == u32::from(number));
+        self.counted.order += u64::from(follows == Some(false) && last != Some(number));
+        last != Some(number)
+    }
+
+    /// The first packet passes. Later ones pass exactly if they stand less than H from the newest
+    /// place and no packet of the span has passed there.
+    fn by_place(&mut self, number: u16) -> bool {
+        let history = self.history();
+        let Some(span) = &mut self.span else {
+            self.span = Some(Span::starting(number));
+            return true;
+        };
+        let place = span.place(number);
+        if (place - span.newest).abs() >= history {
+            self.counted.rogue += 1;
+            return false;
+        }
+        if span.passed.contains(&place) {
+            return false;
+        }
+        self.counted.order += u64::from(place != span.newest + 1);
+        let lost = span.lost;
+        if place > span.newest {
+            span.advance(place, history);
+        }
+        span.passed.insert(place);
+        self.counted.lost += span.lost - lost;
+        true
+    }
+
+    fn tick(&mut self) -> bool {
+        self.since_pass = self.since_pass.map(|ticks| ticks + 1);
+        let timed_out = self.since_pass == Some(self.full);
+        if timed_out {
+            self.reset();
+        }
+        timed_out
+    }
+
+    fn reset(&mut self) {
+        self.span = None;
+        self.last = None;
+        self.since_pass = None;
+        self.counted.resets += 1;
+    }
+
+    fn figure(&self) -> i128 {
+        let others = i128::from(self.setup.paths) - 1;
+        i128::from(self.counted.passed) * others - i128::from(self.counted.discarded)
+    }
+
+    /// What a state has to hold after the events so far. The marks come last, as a view of the
+    /// places.
+    fn holds(&self, state: &State, recount: bool) {
+        let history = self.history();
+        assert_eq!(state.counters, self.counted);
+        assert_eq!(i128::from(state.base), self.base);
+        assert_eq!(state.ticks_left.0, self.since_pass.map_or(0, |ticks| self.full - ticks));
+        assert_eq!(state.take_any, self.span.is_none() && self.last.is_none());
+        let Some(span) = &self.span else {
+            assert_eq!((state.newest, state.marks), (self.last.unwrap_or(65_535), 0));
+            return;
+        };
+        assert!(span.sum_closes(history));
+        assert_eq!(i64::from(state.newest), span.newest.rem_euclid(65_536));
+        let near = span.passed.range(span.newest - history + 1..);
+        assert_eq!(state.marks, near.fold(0, |marks, place| marks | 1 << (span.newest - place)));
+        if recount {
+            assert_eq!(span.lost, span.recount(history));
+        }
+    }
+}
+
+fn step(state: &mut State, event: Event) -> Answer {
+    let (next, answer) = match event {
+        Event::Packet(number) => {
+            let (next, verdict) = state.packet(number).unwrap();
+            (next, Some(verdict == Verdict::Pass))
+        }
+        Event::Tick => {
+            let (next, timed_out) = state.tick().unwrap();
+            (next, Some(timed_out))
+        }
+        Event::Reset => (state.reset().unwrap(), None),
+        Event::LatentReset => (state.latent_reset().unwrap(), None),
+        Event::LatentTest => (*state, Some(state.latent_test().unwrap())),
+    };
+    *state = next;
+    answer
+}
+
+/// Numbers as two paths would bring them: mostly the next one, some late, some twice, some far off.
+fn number(random: &mut Random, near: u16, history: u16) -> u16 {
+    let h = i64::from(history);
+    let away = match random.below(16) {
+        0..=6 => 1,
+        7 | 8 => random.between(-2, 3),
+        9..=11 => random.between(1 - h, h - 1),
+        12 => random.pick(&[-h - 1, -h, 1 - h, h - 1, h, h + 1]),
+        13 => random.pick(&[-32_768, -32_767, 32_767, 65_535, 0]),
+        14 => random.between(0, h - 1),
+        _ if random.once_in(6) => random.between(0, 65_535),
+        _ => -1,
+    };
+    near.wrapping_add(away as u16)
+}
+
+fn random_event(random: &mut Random, near: u16, setup: &Setup) -> Event {
+    match random.below(40) {
+        0 => Event::Packet(None),
+        1..=3 => Event::Tick,
+        4 => Event::LatentReset,
+        5 => Event::LatentTest,
+        6 if random.once_in(5) => Event::Reset,
+        _ => Event::Packet(Some(number(random, near, setup.history))),
+    }
+}
+
+fn random_setup(random: &mut Random, rule: u8, history: u16) -> Setup {
+    Setup {
+        rule,
+        taken: random.below(2) as u8,
+        history,
+        timeout: Milliseconds(random.between(1, 90) as u32),
+        ticks_per_second: random.pick(&[1, 100, 101, 333]),
+        paths: random.between(2, 8) as u8,
+        difference: random.pick(&[0, 1, 5, 40, u32::MAX]),
+    }
+}
+
+/// The list so far, and the state that the layer made of it.
+struct Held {
+    model: Model,
+    state: State,
+    events: u64,
+}
+
+impl Held {
+    fn fresh(setup: Setup) -> Held {
+        Held { model: Model::new(setup), state: State::fresh(setup).unwrap(), events: 0 }
+    }
+
+    /// What the next number is drawn near to. Taken from the model, so a wrong state cannot steer
+    /// the list that is to catch it; a span begins close to the wrap as often as not.
+    fn near(&self, random: &mut Random) -> u16 {
+        match (&self.model.span, self.model.last) {
+            (Some(span), _) => span.newest.rem_euclid(65_536) as u16,
+            (None, Some(last)) => last,
+            (None, None) if random.once_in(2) => random.pick(&[65_535, 65_530, 0, 1]),
+            (None, None) => random.number(),
+        }
+    }
+
+    fn event(&mut self, event: Event, recount_every: u64) {
+        let setup = self.model.setup;
+        let expected = self.model.event(event);
+        let answer = step(&mut self.state, event);
+        assert_eq!(answer, expected, "event {}, {event:?}, {setup:?}", self.events);
+        self.model.holds(&self.state, self.events.is_multiple_of(recount_every));
+        self.events += 1;
+    }
+}
+
+#[test]
+fn short_lists_counted_after_each_event() {
+    let mut random = Random::new(SEED);
+    let mut events = 0;
+    let mut seen = Counters::default();
+    for history in 2..=64 {
+        for list in 0..60 {
+            let rule = if list % 6 == 5 { MATCH } else { VECTOR };
+            let setup = random_setup(&mut random, rule, history);
+            let mut held = Held::fresh(setup);
+            for _ in 0..120 {
+                let near = held.near(&mut random);
+                held.event(random_event(&mut random, near, &setup), 1);
+            }
+            events += held.events;
+            let counted = held.model.counted;
+            seen.order += counted.order;
+            seen.rogue += counted.rogue;
+            seen.lost += counted.lost;
+            seen.tagless += counted.tagless;
+            seen.resets += counted.resets;
+            seen.discarded += counted.discarded;
+        }
+    }
+    assert!(seen.order.min(seen.rogue).min(seen.lost).min(seen.tagless).min(seen.resets) > 1_000);
+    assert!(seen.discarded > seen.rogue + seen.tagless, "no repeats among {seen:?}");
+    report("events in short lists, every H", events);
+}
+
+/// One span for each H that goes round the numbers twice and more, with no reset and no timeout.
+#[test]
+fn long_spans_across_wraps() {
+    let mut random = Random::new(SEED + 1);
+    let mut events = 0;
+    for history in 2..=64 {
+        let setup = Setup {
+            timeout: Milliseconds(3_600_000),
+            ticks_per_second: 10_000,
+            ..random_setup(&mut random, VECTOR, history)
+        };
+        let mut held = Held::fresh(setup);
+        while held.model.span.as_ref().is_none_or(|span| span.newest - span.first < 140_000) {
+            let near = held.near(&mut random);
+            match random_event(&mut random, near, &setup) {
+                Event::Reset => continue,
+                event => held.event(event, 20_011),
+            }
+            assert!(held.events < 1_000_000, "H {history} does not get on");
+        }
+        held.model.holds(&held.state, true);
+        assert_eq!(held.state.counters.resets, 0);
+        events += held.events;
+    }
+    report("events in spans over two wraps, every H", events);
+}

@@ -1,0 +1,152 @@
+//! "The bench tape": the paper's example octet for octet, every fault on both sides, every line.
+
+mod common;
+
+use common::report;
+use compare::plain::tape::{lines, run};
+use compare::random::{Random, SEED};
+
+/// Setup (vector, 0, 4, 100, 100, 2, 1).
+const SETUP: [u8; 16] = [0x0F, 0, 0, 0, 4, 0, 0, 0, 100, 0, 100, 2, 0, 0, 0, 1];
+
+const NOTHING: &str =
+    "passed=0 discarded=0 order=0 rogue=0 lost=0 tagless=0 resets=0 latent-resets=0\n";
+
+fn printed(tape: &[u8]) -> String {
+    String::from_utf8(lines(tape)).expect("lines are plain text")
+}
+
+/// What a tape prints that begins with the setup.
+fn after_setup(events: &[u8]) -> String {
+    printed(&[&SETUP, events].concat())
+}
+
+#[test]
+fn the_papers_tape() {
+    let events = [1, 0, 10, 1, 0, 10, 1, 0, 12, 1, 0, 11, 1, 0, 20, 6];
+    let expected = "ok\npass\ndiscard\npass\npass\ndiscard\nlatent ok\n\
+        passed=3 discarded=2 order=2 rogue=1 lost=2 tagless=0 resets=0 latent-resets=0\n";
+    assert_eq!(after_setup(&events), expected);
+}
+
+#[test]
+fn a_setup_alone() {
+    assert_eq!(printed(&SETUP), format!("ok\n{NOTHING}"));
+}
+
+#[test]
+fn every_line() {
+    // Ten ticks are full: the tenth after a pass times out, the next finds nothing to count.
+    let mut events = vec![1, 0, 10];
+    events.extend([3; 11]);
+    events.extend([2, 6, 6, 4, 5, 6]);
+    let mut expected = String::from("ok\npass\n");
+    expected.push_str(&"tick\n".repeat(9));
+    expected
+        .push_str("reset\ntick\ndiscard\nlatent ok\nlatent ok\nreset\nlatent reset\nlatent ok\n");
+    expected.push_str(
+        "passed=1 discarded=1 order=0 rogue=0 lost=0 tagless=1 resets=2 latent-resets=1\n",
+    );
+    assert_eq!(after_setup(&events), expected);
+    // Two passed and none discarded on two paths are 2 away from the base, and 1 is allowed.
+    let events = [1, 0, 10, 6, 1, 0, 11, 6, 5, 6];
+    assert_eq!(
+        after_setup(&events),
+        "ok\npass\nlatent ok\npass\nlatent error\nlatent reset\nlatent ok\n\
+         passed=2 discarded=0 order=0 rogue=0 lost=1 tagless=0 resets=0 latent-resets=1\n"
+    );
+}
+
+#[test]
+fn packets_without_a_number_may_be_taken() {
+    let mut tape = SETUP.to_vec();
+    tape[2] = 1;
+    tape.extend([2, 3, 3]);
+    assert!(printed(&tape).starts_with("ok\npass\ntick\ntick\npassed=1 discarded=0"));
+}
+
+#[test]
+fn faults_of_the_tape() {
+    assert_eq!(printed(&[]), "fault 25\n");
+    for kind in [0x00, 0x07, 0x08, 0x0E, 0x10, 0xFF] {
+        assert_eq!(printed(&[kind]), "fault 23\n");
+        assert_eq!(after_setup(&[3, kind, 3]), "ok\ntick\nfault 23\n");
+    }
+    for length in 1..16 {
+        assert_eq!(printed(&SETUP[..length]), "fault 24\n");
+        assert_eq!(after_setup(&SETUP[..length]), "ok\nfault 24\n", "cut before repeated");
+    }
+    assert_eq!(printed(&[1, 0]), "fault 24\n", "cut before missing");
+    assert_eq!(after_setup(&[1]), "ok\nfault 24\n");
+    for missing in [&[1, 0, 10][..], &[2], &[3], &[4], &[5], &[6], &[6, 0xFF]] {
+        assert_eq!(printed(missing), "fault 25\n");
+    }
+    assert_eq!(after_setup(&SETUP), "ok\nfault 25\n");
+    let mut bad = SETUP;
+    bad[1] = 9;
+    assert_eq!(after_setup(&bad), "ok\nfault 25\n", "repeated before out of range");
+    assert_eq!(after_setup(&[3, 4, 1, 0, 7, 0x0F]), "ok\ntick\nreset\npass\nfault 24\n");
+}
+
+#[test]
+fn faults_of_the_setup() {
+    // Each field just out of range, from the last one checked to the first, so that each hides
+    // those set before it: 19, 18, 17, 16, 27, 15.
+    let mut tape = SETUP;
+    tape[11] = 9;
+    assert_eq!(printed(&tape), "fault 19\n");
+    tape[9..11].copy_from_slice(&10_001u16.to_be_bytes());
+    assert_eq!(printed(&tape), "fault 18\n");
+    tape[5..9].copy_from_slice(&3_600_001u32.to_be_bytes());
+    assert_eq!(printed(&tape), "fault 17\n");
+    tape[3..5].copy_from_slice(&65u16.to_be_bytes());
+    assert_eq!(printed(&tape), "fault 16\n");
+    tape[2] = 2;
+    assert_eq!(printed(&tape), "fault 27\n");
+    tape[1] = 2;
+    assert_eq!(printed(&tape), "fault 15\n");
+    assert_eq!(printed(&[&tape[..], &[0xFF]].concat()), "fault 15\n", "left to right");
+}
+
+#[test]
+fn the_longest_tape() {
+    let mut tape = SETUP.to_vec();
+    tape.resize(4_096, 3);
+    assert_eq!(printed(&tape), format!("ok\n{}{NOTHING}", "tick\n".repeat(4_080)));
+    tape.push(3);
+    assert_eq!(printed(&tape), "fault 26\n");
+    assert_eq!(printed(&[0xFF; 5_000]), "fault 26\n", "26 before all else");
+}
+
+#[test]
+fn a_lent_buffer() {
+    let mut random = Random::new(SEED);
+    let mut cases = 0;
+    for _ in 0..2_000 {
+        let mut tape = SETUP.to_vec();
+        for _ in 0..random.below(40) {
+            match random.pick(&[1, 1, 1, 2, 3, 4, 5, 6, 7]) {
+                1 => tape.extend([1, 0, random.octet() % 16]),
+                7 if !random.once_in(9) => {}
+                kind => tape.push(kind),
+            }
+        }
+        tape.truncate(random.between(0, 120) as usize);
+        let lines = lines(&tape);
+        for length in [0, lines.len() - 1, lines.len(), lines.len() + 3] {
+            let mut out = vec![0xA5; length];
+            let mut later = out.clone();
+            let expected = if length < lines.len() {
+                Err(8)
+            } else {
+                later[..lines.len()].copy_from_slice(&lines);
+                Ok(lines.len())
+            };
+            assert_eq!(run(&tape, &mut out), expected);
+            assert_eq!(out, later);
+            cases += 1;
+        }
+        assert_eq!(lines.last(), Some(&b'\n'));
+    }
+    report("tapes into lent buffers", cases);
+}
