@@ -1,3 +1,4 @@
+pub mod Bools
 pub mod PastTheEnd
 pub mod Parts
 pub mod Order

@@ -8,10 +8,11 @@ use lib.ListN.{length, take, drop, length-append, length-drop, drop-of-length-le
 use lib.Seq.{take-length, take-all, drop-drop, take-append-seam, drop-append-add}
 use borrow.Author.Tests.{le-leb, lt-leb}
 use borrow.Rule.Slice.PartMut.{putMid, midOf}
-use Rattle.octets.specs.Octets.{putIn, Puts}
+use Rattle.octets.specs.Copy.{putIn, Puts}
 
 module _ (src out : List ℕ) where
-  pub with-room : length src ≤ length out → {later : List ℕ} → later ≡ take (length src) src ++ drop (length src) out → Puts src out true later
+  pub with-room : length src ≤ length out → {later : List ℕ} → later ≡ take (length src) src ++ drop (length src) out
+      → Puts src out true later
   with-room room e = record { answer = sym (le-leb _ _ room); buffer = simp (le-leb _ _ room, e, take-length) }
 
   pub without-room : length out < length src → Puts src out false out
@@ -42,8 +43,9 @@ pub put-first : {src out : List ℕ} → length src ≤ length out → {r : Bool
 put-first room p = simp (p .buffer, le-leb _ _ room)
 
 -- where a buffer `w` has `done` at its start, a part put behind that lengthens what was put
-pub put-next : (done part out : List ℕ) {w : List ℕ} {at : ℕ} → w ≡ putIn done out → at ≡ length done → length done + length part ≤ length out
-    → {r : Bool} {later : List ℕ} → Puts part (midOf at (length w - at) w) r later → putMid at (length w - at) w later ≡ putIn (done ++ part) out
+pub put-next : (done part out : List ℕ) {w : List ℕ} {at : ℕ} → w ≡ putIn done out → at ≡ length done
+    → length done + length part ≤ length out → {r : Bool} {later : List ℕ} → Puts part (midOf at (length w - at) w) r later
+    → putMid at (length w - at) w later ≡ putIn (done ++ part) out
 put-next done part out {w} {at} e f room p =
     rw (put-part part w at (rw (e, f) (simp (length-append, length-drop) (omega arith))) p)
     (simp (e, f, take-append-seam, drop-append-add, drop-drop, length-append, append-assoc))

@@ -4,7 +4,7 @@ use native.Mathlib.Omega.{arith}
 use mathlib.Core.Path.{_≡_, sym}
 use mathlib.Core.List.{List}
 use lib.ListN.{length, getD, List·getD-eq-default}
-use Rattle.octets.specs.Octets.{be16, be32, be48}
+use Rattle.octets.specs.Number.{be16, be32, be48}
 
 pub octet-past : (o : List ℕ) (at : ℕ) → length o ≤ at → 0 ≡ getD o at 0
 octet-past o at past = sym (List·getD-eq-default o 0 past)

@@ -3,7 +3,9 @@ use Prim.Native.Nat.{ℕ}
 use mathlib.Core.Path.{_≡_, sym, _∙_}
 use mathlib.Core.Bool.{Bool}
 use mathlib.Core.List.{List}
-use Rattle.octets.specs.Octets.{Octet, Word16, Word32, Word48, Puts, HandedBack}
+use Rattle.octets.specs.Number.{Octet, Word16, Word32, Word48}
+use Rattle.octets.specs.Copy.{Puts}
+use Rattle.octets.specs.Part.{HandedBack}
 
 -- a promise that names the answer allows one answer; every room's laws cite this
 pub one : {A : Type 0} {x r r′ : A} → r ≡ x → r′ ≡ x → r ≡ r′

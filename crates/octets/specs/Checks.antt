@@ -1,5 +1,5 @@
--- Refusals in their order: a list of checks, each with the number that document 01 gives it; the first that fails decides.
--- Assumes nothing.
+-- Refusals in their order ("When the layer says no"): a list of checks, each with the number that document 01 gives it; the first that
+-- holds decides. "Each is given only then. It returns the number alone". Assumes nothing.
 use Prim.Native.Nat.{ℕ}
 use mathlib.Core.Bool.{Bool, cond}
 use mathlib.Core.List.{List, [], _∷_}
@@ -23,3 +23,8 @@ verdict ((b ⇒ n) ∷ rest) = cond b (refuse n) (verdict rest)
 unfoldable pub _then_ : Verdict → Verdict → Verdict
 good then v = v
 refuse n then v = refuse n
+
+-- a verdict as a number: the refusal's, and 0 where there is none
+abbrev pub refusal : Verdict → ℕ
+refusal good = 0
+refusal (refuse n) = n

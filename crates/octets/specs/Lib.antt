@@ -1,2 +1,4 @@
-pub mod Octets
+pub mod Number
+pub mod Copy
+pub mod Part
 pub mod Checks

@@ -1,5 +1,5 @@
 // A copy into a lent part of a buffer.
-ghost use Rattle.octets.specs.Octets.{Puts};
+ghost use Rattle.octets.specs.Copy.{Puts};
 
 // Copies all of `src` to the start of `out`, and says whether there was room. Without room `out` stays as it is.
 pub fn put(src: &[u8], out: &mut [u8]) -> bool

@@ -4,7 +4,7 @@
 ghost use mathlib.Core.Path.{_≡_};
 ghost use Prim.Native.Nat.{_+_, _<_};
 ghost use lib.ListN.{length};
-ghost use Rattle.octets.specs.Octets.{be16, be32, Octet, Word16, Word32, Word48};
+ghost use Rattle.octets.specs.Number.{be16, be32, Octet, Word16, Word32, Word48};
 
 // The octet at a place.
 pub fn octet(s: &[u8], at: usize) -> u8
