@@ -1,18 +1,18 @@
 -- What is known of a frame that reading accepts. Assumes nothing.
 use Prim.Native.Nat.{ℕ, _+_, _≤_}
 use mathlib.Core.Path.{_≡_, refl, sym, _∙_}
-use mathlib.Core.Bool.{Bool, true, false, cond, _||_}
-use mathlib.Core.List.{List, []}
+use mathlib.Core.Bool.{true, false, cond}
+use mathlib.Core.List.{List, [], _++_}
 use lib.ListN.{length}
 use borrow.Author.Tests.{ltb-false, eqb-false}
-use Rattle.octets.specs.Octets.{be16}
+use Rattle.octets.specs.Number.{be16}
 use Rattle.octets.specs.Checks.{Verdict, good, refuse, verdict}
+use Rattle.octets.proofs.Bools.{by-cases, neither}
 use Rattle.octets.proofs.Order.{verdict-append, clear, both-good}
 use Rattle.frame.specs.declared.Header.{Header}
 use Rattle.frame.specs.declared.Reading.the-variants.{Frame, Refused}
 use Rattle.frame.specs.Layout.{C-TAG, R-TAG, tagged, vlan, tagPlace, numbered, payloadPlace, kindPlace}
-use Rattle.frame.specs.Inner.{Before}
-use Rattle.frame.specs.Reading.{lengthChecks, ctagChecks, rtagChecks, checks, header, answered, reading}
+use Rattle.frame.specs.Reader.{Before, lengthChecks, ctagChecks, rtagChecks, checks, header, answered, reading}
 
 -- the answer tells the verdict: a header is given exactly of a good frame, and it is the frame's
 pub frame-good : (o : List ℕ) {h : Header} → Frame h ≡ reading o → (verdict (checks o) ≡ good) × (h ≡ header o)
@@ -35,26 +35,22 @@ refused-by o {n} e = by-verdict (verdict (checks o)) e
     by-verdict good e = cc
     by-verdict (refuse m) e = cc
 
-neither : (a b : Bool) → (a || b) ≡ false → (a ≡ false) × (b ≡ false)
-neither false b e = (refl, e)
-neither true b e = (cc, cc)
-
 module _ (o : List ℕ) (ok : verdict (checks o) ≡ good) where
-  lengths-good : verdict (lengthChecks o) ≡ good
+  parts-good : (verdict (lengthChecks o) ≡ good)
+      × (verdict (cond (tagged o) (ctagChecks o) [] ++ cond (numbered o) (rtagChecks o) []) ≡ good)
   unfolding checks
-  lengths-good = both-good _ _ (sym (verdict-append (lengthChecks o) _) ∙ ok) .0
+  parts-good = both-good _ _ (sym (verdict-append (lengthChecks o) _) ∙ ok)
 
   tags-good : (verdict (cond (tagged o) (ctagChecks o) []) ≡ good) × (verdict (cond (numbered o) (rtagChecks o) []) ≡ good)
-  unfolding checks
-  tags-good = both-good _ _ (sym (verdict-append (cond (tagged o) (ctagChecks o) []) _) ∙ both-good _ _ (sym (verdict-append (lengthChecks o) _) ∙ ok) .1)
+  tags-good = both-good _ _ (sym (verdict-append (cond (tagged o) (ctagChecks o) []) _) ∙ parts-good .1)
 
   pub least : 14 ≤ length o
   unfolding lengthChecks
-  least = ltb-false _ _ (clear _ _ _ lengths-good .0)
+  least = ltb-false _ _ (clear _ _ _ (parts-good .0) .0)
 
   pub most : length o ≤ 1522
   unfolding lengthChecks
-  most = ltb-false _ _ (clear _ _ _ (clear _ _ _ lengths-good .1) .0)
+  most = ltb-false _ _ (clear _ _ _ (clear _ _ _ (parts-good .0) .1) .0)
 
   -- at a C-TAG: the octets reach past the type behind it, the VLAN id is not 4,095, and no second C-TAG follows
   pub behind-ctag : tagged o ≡ true → (18 ≤ length o) × (vlan o ≡ 4095 → ⊥) × (be16 o 16 ≡ C-TAG → ⊥)
@@ -80,21 +76,14 @@ module _ (o : List ℕ) (ok : verdict (checks o) ≡ good) where
   -- without an R-TAG, what stands at its place is no tag
   pub no-tag : numbered o ≡ false → (be16 o (tagPlace o) ≡ C-TAG → ⊥) × (be16 o (tagPlace o) ≡ R-TAG → ⊥)
   unfolding numbered tagPlace tagged
-  no-tag n = (by-tag (tagged o) refl, eqb-false _ _ n)
-    where
-      by-tag : (t : Bool) → tagged o ≡ t → be16 o (tagPlace o) ≡ C-TAG → ⊥
-      by-tag true e = rw e (behind-ctag e .2)
-      by-tag false e = rw e (eqb-false _ _ e)
+  no-tag n = (by-cases (tagged o) (λ e. rw e (behind-ctag e .2)) (λ e. rw e (eqb-false _ _ e)), eqb-false _ _ n)
 
   -- the payload starts within the frame
   pub payload-within : payloadPlace o ≤ length o
   unfolding payloadPlace kindPlace tagPlace
-  payload-within = by-tags (tagged o) (numbered o) refl refl
-    where
-      by-tags : (t n : Bool) → tagged o ≡ t → numbered o ≡ n → cond n (cond t 16 12 + 6) (cond t 16 12) + 2 ≤ length o
-      by-tags t true e f = rw (← e) (behind-rtag f .0)
-      by-tags true false e f = behind-ctag e .0
-      by-tags false false e f = least
+  payload-within =
+      by-cases (numbered o) (λ n. rw n (behind-rtag n .0))
+      (λ n. rw n (by-cases (tagged o) (λ t. rw t (behind-ctag t .0)) (λ t. rw t least)))
 
 -- the same of the header that was read
 pub starts-within : (o : List ℕ) {h : Header} → Frame h ≡ reading o → h .payload ≤ length o

@@ -1,8 +1,3 @@
 pub mod Verdicts
 pub mod Accepted
-pub mod Splice
-pub mod Decided
 pub mod Unique
-pub mod Alike
-pub mod RoundTrip
-pub mod Trips

@@ -7,22 +7,18 @@ use mathlib.Core.List.{List, []}
 use lib.ListN.{length}
 use lib.Dec.{ltb}
 use borrow.Author.Tests.{lt-ltb, le-ltb, eq-eqb, ne-eqb}
-use Rattle.octets.specs.Octets.{be16}
+use Rattle.octets.specs.Number.{be16}
 use Rattle.octets.specs.Checks.{Verdict, verdict, good, refuse}
+use Rattle.octets.proofs.Bools.{by-cases}
 use Rattle.frame.specs.declared.Header.{Header}
 use Rattle.frame.specs.declared.Reading.the-variants.{Frame, Refused}
 use Rattle.frame.specs.Layout as Layout
 use Rattle.frame.specs.Layout.{C-TAG, R-TAG, destination, source, tagPlace, numbered, number, numberAt, kind, kindPlace, payloadPlace}
-use Rattle.frame.specs.Reading.{lengthChecks, ctagChecks, rtagChecks, checks, header, answered, reading}
-use Rattle.frame.specs.Inner.{Before}
+use Rattle.frame.specs.Reader.{Before, lengthChecks, ctagChecks, rtagChecks, checks, header, answered, reading}
 
 tagPlace-bounds : (o : List ℕ) → (12 ≤ tagPlace o) × (tagPlace o ≤ 16)
 unfolding tagPlace
-tagPlace-bounds o = by-tag (Layout.tagged o)
-  where
-    by-tag : (t : Bool) → (12 ≤ cond t 16 12) × (cond t 16 12 ≤ 16)
-    by-tag true = (omega arith, omega arith)
-    by-tag false = (omega arith, omega arith)
+tagPlace-bounds o = by-cases (Layout.tagged o) (λ e. rw e (omega arith, omega arith)) (λ e. rw e (omega arith, omega arith))
 
 module _ (o : List ℕ) where
   pub too-short : length o < 14 → Refused 1 ≡ reading o

@@ -1,4 +1,3 @@
 pub mod Layout
-pub mod Reading
-pub mod Inner
-pub mod Tag
+pub mod Reader
+pub mod Part

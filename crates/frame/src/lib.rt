@@ -1,14 +1,11 @@
-// A lent frame: read in one pass, its payload handed back as a part of it, the R-TAG put in and taken off.
+// A lent frame: read in one pass, and its payload handed back as a part of it.
 //
-// Whatever octets come in, each call answers or refuses by document 01's number, and a refusal leaves the lent output as it was.
+// Whatever octets come in, each call answers or refuses by document 01's number.
 mod part;
 mod reader;
-mod tag;
 
 pub use part::payload;
 pub use reader::read;
-pub use tag::insert;
-pub use tag::remove;
 
 // What a frame says before its payload. An address is its six octets as one big-endian number.
 pub struct Header {
@@ -28,11 +25,5 @@ pub struct Header {
 
 pub enum Reading {
     Frame(Header),
-    Refused(u8),
-}
-
-// What insertion and removal answer: the result's length, or the refusal.
-pub enum Written {
-    Length(usize),
     Refused(u8),
 }

@@ -2,7 +2,7 @@
 use crate::Reading;
 use crate::reader::read;
 ghost use denote.Ref.{ptr};
-ghost use Rattle.frame.specs.Reading.{HandsBack};
+ghost use Rattle.frame.specs.Part.{HandsBack};
 
 // What follows the last type of a frame that `read` accepts; an empty part of a frame that it refuses.
 pub fn payload(frame: &[u8]) -> &[u8]

@@ -1,8 +1,7 @@
 // "Reading a frame" (document 01).
 use crate::Header;
 use crate::Reading;
-ghost use Rattle.frame.specs.Reading.{Reads};
-ghost use Rattle.frame.specs.Inner.{Before};
+ghost use Rattle.frame.specs.Reader.{Before, Reads};
 
 const C_TAG: u16 = 0x8100;
 
@@ -30,7 +29,7 @@ pub fn read(frame: &[u8]) -> Reading
         return Reading::Refused(5);
     }
     if octets::word16(frame, 16) == C_TAG {
-        return Reading::Refused(4);
+        return Reading::Refused(4); // 8100 after a C-TAG
     }
     from_tag_place(frame, 16, true, vlan)
 }
@@ -59,10 +58,10 @@ fn from_tag_place(frame: &[u8], at: usize, tagged: bool, vlan: u16) -> Reading
     }
     let kind = octets::word16(frame, at + 6);
     if kind == C_TAG {
-        return Reading::Refused(4);
+        return Reading::Refused(4); // 8100 after an R-TAG
     }
     if kind == R_TAG {
-        return Reading::Refused(4);
+        return Reading::Refused(4); // F1C1 after an R-TAG
     }
     h.numbered = true;
     h.number = octets::word16(frame, at + 4);

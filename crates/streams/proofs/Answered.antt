@@ -1,20 +1,18 @@
 -- What an answer tells of the table's verdict, and what the verdict and the frame's reading make of a lookup. Assumes nothing.
 use Prim.Native.Nat.{ℕ}
 use mathlib.Core.Path.{_≡_, refl, sym}
-use mathlib.Core.Bool.{Bool, true, false, cond}
 use mathlib.Core.List.{List, [], _∷_}
 use Rattle.octets.specs.Checks.{Verdict, good, refuse, verdict, _then_}
+use Rattle.octets.proofs.Bools.{by-cases}
 use Rattle.frame.specs.declared.Header.{Header}
 use Rattle.frame.specs.declared.Reading.the-variants as Reading
-use Rattle.frame.specs.Reading.{reading}
+use Rattle.frame.specs.Reader.{reading}
 use Rattle.frame.proofs.Accepted.{frame-good, refused-by}
 use Rattle.streams.specs.declared.Checked.the-variants as Checked
 use Rattle.streams.specs.declared.Found.{Found}
 use Rattle.streams.specs.declared.Found.the-variants.{Stream, NoStream, Refused}
-use Rattle.streams.specs.Table.{fields, entries, tableVerdict}
-use Rattle.streams.specs.Match.{matches, firstMatch}
-use Rattle.streams.specs.Lookup.{checkedBy, foundBy, lookupOf, Checks, LooksUp}
-use Rattle.streams.specs.Inner.{walked}
+use Rattle.streams.specs.Entry.{fields, matches}
+use Rattle.streams.specs.Table.{entries, tableVerdict, firstMatch, foundBy, lookupOf, checkedBy, walked, ChecksTable, LooksUp}
 
 -- the table's verdict that the answer of a walk tells
 abbrev pub verdictOf : Found → Verdict
@@ -26,11 +24,7 @@ verdictOf NoStream = good
 match-good : (es : List (List ℕ)) (h : Header) → verdictOf (firstMatch es h) ≡ good
 unfolding firstMatch
 match-good [] h = refl
-match-good (e ∷ es) h = by-match (matches (fields e) h) (match-good es h)
-  where
-    by-match : (m : Bool) → verdictOf (firstMatch es h) ≡ good → verdictOf (cond m (Stream (fields e .handle)) (firstMatch es h)) ≡ good
-    by-match true later = refl
-    by-match false later = later
+match-good (e ∷ es) h = by-cases (matches (fields e) h) (λ m. rw m refl) (λ m. rw m (match-good es h))
 
 pub told : (t : List ℕ) (h : Header) {r : Found} → r ≡ walked t h → tableVerdict t ≡ verdictOf r
 unfolding walked
@@ -61,10 +55,10 @@ module _ (t o : List ℕ) where
   walk-answers e = let g = frame-good o e in simp (g .0, g .1, then-good)
 
   -- the frame is not: its refusal stands behind the table's
-  pub frame-refused : {n : ℕ} → Reading.Refused n ≡ reading o → Checks t Checked.Good → LooksUp t o (Refused n)
+  pub frame-refused : {n : ℕ} → Reading.Refused n ≡ reading o → ChecksTable t Checked.Good → LooksUp t o (Refused n)
   unfolding lookupOf _then_
   frame-refused e g = simp (checked-good (tableVerdict t) g, refused-by o e)
 
-  pub table-refused : {n : ℕ} → Checks t (Checked.Refused n) → LooksUp t o (Refused n)
+  pub table-refused : {n : ℕ} → ChecksTable t (Checked.Refused n) → LooksUp t o (Refused n)
   unfolding lookupOf _then_
   table-refused g = simp (checked-refused (tableVerdict t) g)

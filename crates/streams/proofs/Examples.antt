@@ -2,15 +2,14 @@
 use Prim.Native.Nat.{ℕ}
 use mathlib.Core.Path.{_≡_, refl}
 use mathlib.Core.List.{List, [], _∷_, _++_, map}
-use Rattle.octets.specs.Octets.{be16, be32, be48}
+use Rattle.octets.specs.Number.{be16, be32, be48}
 use Rattle.octets.specs.Checks.{verdict, _then_}
 use Rattle.frame.specs.Layout.{destination, source, tagged, vlan, tagPlace, numbered, number, numberAt, kindPlace, kind, payloadPlace}
-use Rattle.frame.specs.Reading.{lengthChecks, ctagChecks, rtagChecks, checks, header}
+use Rattle.frame.specs.Reader.{lengthChecks, ctagChecks, rtagChecks, checks, header}
 use Rattle.streams.specs.declared.Found.{Found}
 use Rattle.streams.specs.declared.Found.the-variants.{Stream, NoStream, Refused}
-use Rattle.streams.specs.Table.{bodyLength, entriesAfter, entries, fields, outOfRange, entryChecks, tableChecks, tableVerdict}
-use Rattle.streams.specs.Match.{choiceAllows, allows, addressOf, matches, firstMatch}
-use Rattle.streams.specs.Lookup.{lookupOf}
+use Rattle.streams.specs.Entry.{bodyLength, fields, outOfRange, choiceAllows, allows, addressOf, matches}
+use Rattle.streams.specs.Table.{entriesAfter, entries, entryChecks, tableChecks, tableVerdict, firstMatch, lookupOf}
 
 receiver : List ℕ
 receiver = 2 ∷ 0 ∷ 0 ∷ 0 ∷ 0 ∷ 1 ∷ []
@@ -66,7 +65,7 @@ rows =
 
 as-listed : map (λ (x : Row). lookupOf (x .table) (x .frame)) rows ≡ map (λ (x : Row). x .answer) rows
 unfolding rows row entry plain inVlan short receiver sender
-    lookupOf tableVerdict tableChecks entryChecks entries entriesAfter bodyLength fields outOfRange firstMatch matches allows choiceAllows addressOf
-    verdict _then_ be16 be32 be48 checks lengthChecks ctagChecks rtagChecks header destination source tagged vlan tagPlace numbered
+    lookupOf tableVerdict tableChecks entryChecks entries entriesAfter bodyLength fields outOfRange firstMatch
+    matches allows choiceAllows addressOf verdict _then_ be16 be32 be48 checks lengthChecks ctagChecks rtagChecks header destination source tagged vlan tagPlace numbered
     number numberAt kindPlace kind payloadPlace
 as-listed = refl

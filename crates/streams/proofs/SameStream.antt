@@ -7,17 +7,17 @@ use lib.ListN.{length, take}
 use Rattle.octets.specs.Checks.{good, verdict}
 use Rattle.frame.specs.declared.Header.{Header}
 use Rattle.frame.specs.declared.Reading.the-variants.{Frame}
-use Rattle.frame.specs.declared.Written.the-variants.{Length}
-use Rattle.frame.specs.Reading.{reading}
-use Rattle.frame.specs.Tag.{inserted, removed, insertChecks, removeChecks, withNumber, withoutNumber, Inserts, Removes}
+use Rattle.frame.specs.Reader.{reading}
 use Rattle.frame.proofs.Accepted.{good-frame}
-use Rattle.frame.proofs.RoundTrip.{insertable, removable, inserted-reads, removed-reads}
-use Rattle.frame.proofs.Trips.{wrote}
+use Rattle.tag.specs.declared.Written.the-variants.{Length}
+use Rattle.tag.specs.Insertion.{inserted, insertChecks, Inserts}
+use Rattle.tag.specs.Removal.{removed, removeChecks, Removes}
+use Rattle.tag.specs.RoundTrip.{withNumber, withoutNumber}
+use Rattle.tag.proofs.RoundTrip.{insertable, removable, inserted-reads, removed-reads}
+use Rattle.tag.proofs.Trips.{wrote}
 use Rattle.streams.specs.declared.Found.{Found}
-use Rattle.streams.specs.Table.{entries}
-use Rattle.streams.specs.Match.{allows, addressOf, matches, firstMatch}
-use Rattle.streams.specs.Lookup.{lookupOf, LooksUp}
-use Rattle.streams.specs.Inner.{walked}
+use Rattle.streams.specs.Entry.{allows, addressOf, matches}
+use Rattle.streams.specs.Table.{entries, firstMatch, lookupOf, walked, LooksUp}
 use Rattle.streams.proofs.Answered.{walk-answers}
 
 -- a header with only what an entry asks of a frame
@@ -46,7 +46,8 @@ lookup-asked t o p {h} {g} e f same =
     let found : firstMatch (entries t) h ≡ firstMatch (entries t) g = match-asked _ h ∙ rw same (sym (match-asked _ g)) in
     sym (walk-answers t o e) ∙ (rw found (walk-answers t p f))
 
-pub same-inserted : (t o : List ℕ) (n room : ℕ) → n < 65536 → verdict (insertChecks o room) ≡ good → lookupOf t (inserted o n) ≡ lookupOf t o
+pub same-inserted : (t o : List ℕ) (n room : ℕ) → n < 65536 → verdict (insertChecks o room) ≡ good
+    → lookupOf t (inserted o n) ≡ lookupOf t o
 unfolding withNumber asked
 same-inserted t o n room small ok =
     let e = good-frame o (insertable o room ok .reads) in lookup-asked t (inserted o n) o (inserted-reads o n room ok small e) e refl

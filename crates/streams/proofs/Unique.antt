@@ -5,9 +5,9 @@ use mathlib.Core.List.{List}
 use Rattle.octets.proofs.Unique.{one}
 use Rattle.streams.specs.declared.Checked.{Checked}
 use Rattle.streams.specs.declared.Found.{Found}
-use Rattle.streams.specs.Lookup.{Checks, LooksUp}
+use Rattle.streams.specs.Table.{ChecksTable, LooksUp}
 
-pub checks-one : (t : List ℕ) {r r′ : Checked} → Checks t r → Checks t r′ → r ≡ r′
+pub checks-one : (t : List ℕ) {r r′ : Checked} → ChecksTable t r → ChecksTable t r′ → r ≡ r′
 checks-one t = one
 
 pub looks-up-one : (t o : List ℕ) {r r′ : Found} → LooksUp t o r → LooksUp t o r′ → r ≡ r′

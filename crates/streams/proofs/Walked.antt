@@ -8,14 +8,14 @@ use lib.ListN.{length, getD, take, drop, length-drop, drop-of-length-le}
 use lib.Seq.{drop-cons, drop-drop, take-all, length-take-le}
 use borrow.Author.Tests.{lt-ltb, le-ltb, le-leb, lt-leb, eq-eqb, ne-eqb}
 use Rattle.octets.specs.Checks.{good, refuse, verdict, _then_}
+use Rattle.octets.proofs.Bools.{by-cases}
 use Rattle.octets.proofs.Order.{verdict-append}
 use Rattle.frame.specs.declared.Header.{Header}
 use Rattle.streams.specs.declared.entry.Fields.{Fields}
 use Rattle.streams.specs.declared.Found.{Found}
 use Rattle.streams.specs.declared.Found.the-variants.{Stream, NoStream, Refused}
-use Rattle.streams.specs.Table.{bodyLength, entriesAfter, entries, fields, outOfRange, entryChecks, tableChecks, tableVerdict}
-use Rattle.streams.specs.Match.{matches, firstMatch}
-use Rattle.streams.specs.Inner.{alone, _orElse_, walked}
+use Rattle.streams.specs.Entry.{bodyLength, fields, outOfRange, matches}
+use Rattle.streams.specs.Table.{entriesAfter, entries, entryChecks, tableChecks, tableVerdict, firstMatch, walked, _orElse_, alone}
 
 -- octets that belong to the entry before are passed over
 entries-after : (left : ℕ) (t : List ℕ) → entriesAfter left t ≡ entries (drop left t)
@@ -47,12 +47,7 @@ orElse-none (Refused n) = refl
 
 first-cons : (e : List ℕ) (es : List (List ℕ)) (h : Header) → firstMatch (e ∷ es) h ≡ alone (fields e) h orElse firstMatch es h
 unfolding firstMatch alone _orElse_
-first-cons e es h = by-match (matches (fields e) h)
-  where
-    by-match : (m : Bool) → cond m (Stream (fields e .handle)) (firstMatch es h)
-        ≡ cond m (Stream (fields e .handle)) NoStream orElse firstMatch es h
-    by-match true = refl
-    by-match false = refl
+first-cons e es h = by-cases (matches (fields e) h) (λ m. rw m refl) (λ m. rw m refl)
 
 -- the entries before a place are checked, and `found` is what they gave: the checks from there on decide, and the matches from there on add
 pub record Passed (t : List ℕ) (h : Header) (found : Found) (passed at : ℕ) : Type 0 where

@@ -1,4 +1,2 @@
+pub mod Entry
 pub mod Table
-pub mod Match
-pub mod Lookup
-pub mod Inner

@@ -1,8 +1,7 @@
 // One entry of a table: what it holds, and whether it matches a frame.
 use frame::Header;
 ghost use mathlib.Core.Path.{_≡_};
-ghost use Rattle.streams.specs.Table.{bodyLength, fields, outOfRange};
-ghost use Rattle.streams.specs.Match.{choiceAllows, allows, addressOf, matches};
+ghost use Rattle.streams.specs.Entry.{bodyLength, fields, outOfRange, choiceAllows, allows, addressOf, matches};
 
 // An entry of kind 1 or 2. The address is its six octets as one big-endian number, as a frame's are.
 pub struct Fields {

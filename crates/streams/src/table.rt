@@ -9,12 +9,11 @@ use crate::entry::out_of_range;
 use frame::Header;
 use frame::Reading;
 ghost use mathlib.Core.Path.{_≡_};
-ghost use Rattle.streams.specs.Lookup.{Checks, LooksUp};
-ghost use Rattle.streams.specs.Inner.{alone, _orElse_, walked};
+ghost use Rattle.streams.specs.Table.{walked, _orElse_, alone, ChecksTable, LooksUp};
 
 // The table's verdict alone.
 pub fn check(table: &[u8]) -> Checked
-    ensures { λ r. ⌜ Checks (now (table .entry)) r ⌝ }
+    ensures { λ r. ⌜ ChecksTable (now (table .entry)) r ⌝ }
 {
     match walk(table, no_frame()) {
         Found::Refused(no) => Checked::Refused(no),

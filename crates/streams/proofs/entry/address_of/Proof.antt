@@ -1,13 +1,15 @@
 -- `streams::entry::address_of` meets its promise: the source under kind 2, else the destination. Assumes nothing.
 use borrow.Author.Tests.{ne-eqb}
-use Rattle.streams.specs.Match.{addressOf}
+use Rattle.streams.specs.Entry.{addressOf}
 use Rattle.streams.proofs.entry.address_of.Statement.{statement}
 use Rattle.streams.proofs.entry.address_of.Tie as tie
 
+-- kind 2
 returns : tie.Need-returns
 unfolding addressOf
 returns c = simp (c .if1 .taken)
 
+-- any other
 returns-2 : tie.Need-returns-2
 unfolding addressOf
 returns-2 c = simp (ne-eqb _ _ (c .if1 .left))

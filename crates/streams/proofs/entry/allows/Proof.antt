@@ -2,30 +2,36 @@
 use mathlib.Core.Path.{_∙_, sym}
 use borrow.Author.Needs.{needs}
 use borrow.Author.Tests.{eq-eqb, ne-eqb}
-use Rattle.streams.specs.Match.{allows}
+use Rattle.streams.specs.Entry.{allows}
 use Rattle.streams.proofs.entry.allows.Statement.{statement}
 use Rattle.streams.proofs.entry.allows.Tie as tie
 
+-- another address
 returns : tie.Need-returns
 unfolding allows
 returns c = simp (ne-eqb _ _ (c .if1 .taken))
 
+-- the choice allows the frame, and the entry's VLAN is 0
 returns-2 : tie.Need-returns-2
 unfolding allows
 returns-2 c =
-    let a = c .before .before .before in
-    simp (eq-eqb _ _ (a .before .if1 .left), sym (a .choice-allows .ensures) ∙ c .before .before .if2 .taken, eq-eqb _ _ (c .if3 .taken))
+    let allowed = c .before .before in
+    let asked = allowed .before in
+    simp (eq-eqb _ _ (asked .before .if1 .left), sym (asked .choice-allows .ensures) ∙ allowed .if2 .taken, eq-eqb _ _ (c .if3 .taken))
 
+-- the choice allows the frame, and its VLAN decides
 returns-3 : tie.Need-returns-3
 unfolding allows
 returns-3 c =
-    let e = c .before .before in
-    let a = e .before .before .before in
-    simp (eq-eqb _ _ (a .before .if1 .left), sym (a .choice-allows .ensures) ∙ e .before .before .if2 .taken, ne-eqb _ _ (e .if3 .left))
+    let vlan = c .before .before in
+    let allowed = vlan .before .before in
+    let asked = allowed .before in
+    simp (eq-eqb _ _ (asked .before .if1 .left), sym (asked .choice-allows .ensures) ∙ allowed .if2 .taken, ne-eqb _ _ (vlan .if3 .left))
 
+-- the choice does not allow the frame
 returns-4 : tie.Need-returns-4
 unfolding allows
-returns-4 c = simp (eq-eqb _ _ (c .before .before .if1 .left), sym (c .before .choice-allows .ensures) ∙ c .if2 .left)
+returns-4 c = let asked = c .before in simp (eq-eqb _ _ (asked .before .if1 .left), sym (asked .choice-allows .ensures) ∙ c .if2 .left)
 
 pub allows-spec : {M : Type 1} → statement M
-allows-spec = tie.close (tie.spec returns (λ c κs. search needs) returns-2 returns-3 returns-4)
+allows-spec = tie.close (search (tie.spec, returns, returns-2, returns-3, returns-4, needs))

@@ -1,17 +1,20 @@
 -- `streams::entry::body_length` meets its promise, kind by kind. Assumes nothing.
 use borrow.Author.Tests.{ne-eqb}
-use Rattle.streams.specs.Table.{bodyLength}
+use Rattle.streams.specs.Entry.{bodyLength}
 use Rattle.streams.proofs.entry.body_length.Statement.{statement}
 use Rattle.streams.proofs.entry.body_length.Tie as tie
 
+-- kind 1
 returns : tie.Need-returns
 unfolding bodyLength
 returns c = simp (c .match .keys1)
 
+-- kind 2
 returns-2 : tie.Need-returns-2
 unfolding bodyLength
 returns-2 c = simp (c .match .keys2)
 
+-- an octet that is no kind
 returns-3 : tie.Need-returns-3
 unfolding bodyLength
 returns-3 c = simp (ne-eqb _ _ (c .match .rest .1), ne-eqb _ _ (c .match .rest .0 .1))

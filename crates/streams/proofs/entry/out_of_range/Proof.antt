@@ -2,18 +2,21 @@
 use native.Mathlib.Omega.{arith}
 use mathlib.Core.Bool.{or-true}
 use borrow.Author.Tests.{lt-ltb, le-ltb}
-use Rattle.streams.specs.Table.{outOfRange}
+use Rattle.streams.specs.Entry.{outOfRange}
 use Rattle.streams.proofs.entry.out_of_range.Statement.{statement}
 use Rattle.streams.proofs.entry.out_of_range.Tie as tie
 
+-- a choice from 1 to 3: the VLAN decides
 returns : tie.Need-returns
 unfolding outOfRange
 returns c = simp (le-ltb _ _ (c .before .if1 .left), le-ltb 3 (c .before .before .args .choice) (omega arith))
 
+-- a choice under 1
 returns-2 : tie.Need-returns-2
 unfolding outOfRange
 returns-2 c = simp (lt-ltb _ _ (c .if1 .taken))
 
+-- a choice over 3
 returns-3 : tie.Need-returns-3
 unfolding outOfRange
 returns-3 c = simp (lt-ltb _ _ (c .if2 .left), or-true)

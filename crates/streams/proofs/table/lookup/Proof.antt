@@ -6,34 +6,36 @@ use Rattle.streams.proofs.Answered.{walk-answers, frame-refused, table-
 use Rattle.streams.proofs.table.lookup.Statement.{statement}
 use Rattle.streams.proofs.table.lookup.Tie as tie
 
+-- a good frame
 returns : tie.Need-returns
 returns c =
-    let h = c .before .before in c .walk .ensures ∙ walk-answers _ _ (sym (h .h .given .1) ∙ h .before .before .read .ensures)
+    let at-h = c .before .before in c .walk .ensures ∙ walk-answers _ _ (sym (at-h .h .given .1) ∙ at-h .before .before .read .ensures)
 
+-- a bad frame, and a good table
 returns-2 : tie.Need-returns-2
 returns-2 c =
-    let k = c .before .before in
-    let n = k .before .before in
-    frame-refused
-    _
-    _
-    (sym (n .no .given .1) ∙ n .before .before .read .ensures)
-    (sym (c .enum-told .given .1) ∙ k .check .ensures)
+    let checked = c .before .before in
+    let at-no = checked .before .before in
+    frame-refused _ _ (sym (at-no .no .given .1) ∙ at-no .before .before .read .ensures)
+    (sym (c .enum-told .given .1) ∙ checked .check .ensures)
 
+-- both are bad
 returns-3 : tie.Need-returns-3
-returns-3 c = table-refused _ _ (sym (c .before .first .given .1) ∙ c .before .before .before .check .ensures)
+returns-3 c = let at-first = c .before in table-refused _ _ (sym (at-first .first .given .1) ∙ at-first .before .before .check .ensures)
+
+enum-known-h : tie.Need-enum-known-h
+enum-known-h c = search needs
+
+enum-known-no : tie.Need-enum-known-no
+enum-known-no c = search needs
+
+enum-told : tie.Need-enum-told
+enum-told c = search needs
+
+enum-known-first : tie.Need-enum-known-first
+enum-known-first c = search needs
 
 pub lookup-spec : {M : Type 1} → statement M
 lookup-spec =
     tie.close
-    (tie.spec
-    (λ c κs. search needs)
-    (λ c. search needs)
-    (λ c κs. search needs)
-    (λ c. search needs)
-    (λ c κs. search needs)
-    (λ c. search needs)
-    (λ c. search needs)
-    returns
-    returns-2
-    returns-3)
+    (search (tie.spec, returns, returns-2, returns-3, enum-known-h, enum-known-no, enum-told, enum-known-first, needs))

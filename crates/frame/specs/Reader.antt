@@ -1,0 +1,68 @@
+-- Reading a frame: the checks in document 01's order, and what is read of a good frame. Assumes nothing.
+use Prim.Native.Nat.{ℕ, _+_}
+use mathlib.Core.Path.{_≡_}
+use mathlib.Core.Bool.{Bool, cond, _||_}
+use mathlib.Core.List.{List, [], _∷_, _++_}
+use lib.ListN.{length}
+use lib.Dec.{ltb, eqb}
+use Rattle.octets.specs.Number.{be16}
+use Rattle.octets.specs.Checks.{Check, _⇒_, Verdict, good, refuse, verdict}
+use Rattle.frame.specs.declared.Header.{Header}
+use Rattle.frame.specs.declared.Reading.{Reading}
+use Rattle.frame.specs.declared.Reading.the-variants.{Frame, Refused}
+use Rattle.frame.specs.Layout as Layout
+use Rattle.frame.specs.Layout.{C-TAG, R-TAG, destination, source, tagged, vlan, tagPlace, tagLength}
+use Rattle.frame.specs.Layout.{numbered, number, kind, payloadPlace}
+
+-- "Length 14 to 1,522": "frame under 14; over 1,522"
+unfoldable pub lengthChecks : List ℕ → List Check
+lengthChecks o = ltb (length o) 14 ⇒ 1 ∷ ltb 1522 (length o) ⇒ 2 ∷ []
+
+-- "At a C-TAG: 3, 5, 4": "octets end before the type after a tag"; "VLAN id 4,095"; "8100 after a C-TAG"
+unfoldable pub ctagChecks : List ℕ → List Check
+ctagChecks o = ltb (length o) 18 ⇒ 3 ∷ eqb (vlan o) 4095 ⇒ 5 ∷ eqb (be16 o 16) C-TAG ⇒ 4 ∷ []
+
+-- "At an R-TAG: 3, 4": "octets end before the type after a tag"; "8100 or F1C1 after an R-TAG"
+unfoldable pub rtagChecks : List ℕ → List Check
+rtagChecks o =
+    ltb (length o) (tagPlace o + tagLength + 2) ⇒ 3
+    ∷ (eqb (be16 o (tagPlace o + tagLength)) C-TAG || eqb (be16 o (tagPlace o + tagLength)) R-TAG) ⇒ 4
+    ∷ []
+
+-- "Check 1, 2, then left to right"
+unfoldable pub checks : List ℕ → List Check
+checks o = lengthChecks o ++ (cond (tagged o) (ctagChecks o) [] ++ cond (numbered o) (rtagChecks o) [])
+
+-- what is read of a good frame, in the order in which document 01 names it. "Reserved octets are .. ignored on reading"
+unfoldable pub header : List ℕ → Header
+header o =
+    record {
+      destination = destination o;
+      source = source o;
+      tagged = tagged o;
+      vlan = vlan o;
+      numbered = numbered o;
+      number = number o;
+      kind = kind o;
+      payload = payloadPlace o;
+    }
+
+-- the header where the checks are good, and on a refusal "the number alone"
+abbrev pub answered : Verdict → Header → Reading
+answered good h = Frame h
+answered (refuse n) h = Refused n
+
+-- what a frame reads as
+unfoldable pub reading : List ℕ → Reading
+reading o = answered (verdict (checks o)) (header o)
+
+-- what `from_tag_place` asks of its callers: all before the R-TAG's place is read and good, so that only the checks at an R-TAG are left
+pub record Before (o : List ℕ) (at : ℕ) (tagged : Bool) (vlan : ℕ) : Type 0 where
+  pub place : at ≡ tagPlace o
+  pub isTagged : tagged ≡ Layout.tagged o
+  pub isVlan : vlan ≡ Layout.vlan o
+  pub left : verdict (checks o) ≡ verdict (cond (numbered o) (rtagChecks o) [])
+
+-- the promise of `read`
+abbrev pub Reads : List ℕ → Reading → Type 0
+Reads o r = r ≡ reading o

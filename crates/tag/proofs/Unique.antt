@@ -1,0 +1,21 @@
+-- Any two answers that a promise of this room allows are equal, and so are any two later buffers. Assumes nothing.
+use Prim.Native.Nat.{ℕ}
+use mathlib.Core.Path.{_≡_}
+use mathlib.Core.List.{List}
+use Rattle.octets.specs.Checks.{Verdict}
+use Rattle.octets.proofs.Unique.{one}
+use Rattle.tag.specs.declared.Written.{Written}
+use Rattle.tag.specs.Output.{Writes}
+use Rattle.tag.specs.Insertion.{Inserts}
+use Rattle.tag.specs.Removal.{Removes}
+
+pub writes-one : {v : Verdict} {result out : List ℕ} {r r′ : Written} {l l′ : List ℕ}
+    → Writes v result out r l → Writes v result out r′ l′ → (r ≡ r′) × (l ≡ l′)
+writes-one p q = (one (p .answer) (q .answer), one (p .buffer) (q .buffer))
+
+module _ (o : List ℕ) {out : List ℕ} {r r′ : Written} {l l′ : List ℕ} where
+  pub inserts-one : (n : ℕ) → Inserts o n out r l → Inserts o n out r′ l′ → (r ≡ r′) × (l ≡ l′)
+  inserts-one n = writes-one
+
+  pub removes-one : Removes o out r l → Removes o out r′ l′ → (r ≡ r′) × (l ≡ l′)
+  removes-one = writes-one

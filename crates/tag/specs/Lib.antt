@@ -1,0 +1,4 @@
+pub mod Output
+pub mod Insertion
+pub mod Removal
+pub mod RoundTrip
