@@ -8,11 +8,10 @@ use native.Mathlib.Omega.{arith}
 use lib.ListN.{length, getD, take, drop}
 use lib.Seq.{getD-take, getD-drop, length-take-le}
 use lib.Dec.{lit<}
-use Rattle.octets.specs.Octets.{be16, be32}
-use Rattle.cards.specs.Payload.{nextCard, width, isCard, cardPart, ofKind, whole}
-use Rattle.cards.specs.declared.Card.{Card}
+use Rattle.octets.specs.Number.{be16, be32}
+use Rattle.cards.specs.Payload.{nextKind, known, octetsAfter, ofKind, nextCard, width, isCard, cardPart}
 use Rattle.cards.specs.declared.Card.the-variants.{FlushOrder, RawCode, Millivolts}
-use Rattle.cards.proofs.Kind.{each, at-kind, fits}
+use Rattle.cards.proofs.Kind.{first-octet, whole, there, each}
 
 module _ (o : List ℕ) where
   kept : (n i : ℕ) → 1 + i < n → getD (drop 1 (take n o)) i 0 ≡ getD (drop 1 o) i 0
@@ -26,11 +25,13 @@ module _ (o : List ℕ) where
   unfolding be32
   kept32 = simp (kept 5 0 (lit< tt), kept 5 1 (lit< tt), kept 5 2 (lit< tt), kept 5 3 (lit< tt))
 
-  -- the first n + 1 octets, with the kind k among them, are a whole card of that kind
-  alone : (n k : ℕ) (c : Card) → getD o 0 0 ≡ k → suc n ≤ length o → ofKind k (drop 1 (take (suc n) o)) ≡ whole n (drop 1 (take (suc n) o)) c → nextCard (take (suc n) o) ≡ c
-  alone n k c kind long e =
-      let front = take (suc n) o in
-      sym (fits front c n (le-of-eq (sym (length-take-le (suc n) o long))) ∙ sym e ∙ at-kind front k (sym (getD-take (suc n) o 0 0 (omega arith))) kind)
+  -- the octets of a kind, by themselves, are a whole card of that kind
+  alone : (k : ℕ) → nextKind o ≡ k → known k ≡ true → suc (octetsAfter k) ≤ length o
+      → let front = take (suc (octetsAfter k)) o in ofKind k (drop 1 front) ≡ nextCard front
+  alone k at is long =
+      let n = suc (octetsAfter k) in
+      let same : nextKind (take n o) ≡ k = first-octet (take n o) ∙ getD-take n o 0 0 (omega arith) ∙ sym (first-octet o) ∙ at in
+      whole (take n o) same is (there (take n o) (le-of-eq (sym (length-take-le n o long))))
 
   pub own-card : isCard (nextCard o) ≡ true → nextCard (cardPart o) ≡ nextCard o
   own-card =
@@ -38,6 +39,6 @@ module _ (o : List ℕ) where
       (λ e. absurd (true≢false (sym e)))
       (λ e. absurd (true≢false (sym e)))
       (λ e. absurd (true≢false (sym e)))
-      (λ kind long e. alone 4 0x10 _ kind long refl ∙ ap FlushOrder kept32)
-      (λ kind long e. alone 2 0x11 _ kind long refl ∙ ap RawCode kept16)
-      (λ kind long e. alone 2 0x12 _ kind long refl ∙ ap Millivolts kept16)
+      (λ at long e. sym (alone 0x10 at refl long) ∙ ap FlushOrder kept32)
+      (λ at long e. sym (alone 0x11 at refl long) ∙ ap RawCode kept16)
+      (λ at long e. sym (alone 0x12 at refl long) ∙ ap Millivolts kept16)

@@ -9,7 +9,7 @@ use lib.Ieee.{Float, nan, inf, fin, binary64, up, down, unlike, ofInt, round, su
 use lib.Ieee.Fits.{down-pos}
 use Rattle.cards.specs.Reading.{number}
 use Rattle.cards.specs.Bounds.{Between}
-use Rattle.cards.proofs.Either.{either}
+use Rattle.octets.proofs.Bools.{either}
 use Rattle.cards.proofs.Rounded.{round-between}
 
 pub number-between : (n hi : ℕ) → n ≤ hi → hi ≤ 2 ^ 53 → Between 0 hi (number n)
@@ -24,8 +24,7 @@ signs true false hi = omega arith
 signs true true hi = omega arith
 
 fair : (s : Bool) (hi : ℕ) → hi ≤ 2 ^ 53 → cond s 0 hi ≤ 2 ^ 53
-fair false hi h = h
-fair true hi h = zero-le
+fair s hi h = either (λ (n : ℕ). n ≤ 2 ^ 53) s (λ _. zero-le) (λ _. h)
 
 pub mul-between : (x g : Float) (hi : ℕ) → hi ≤ 2 ^ 53 → Between 0 hi x → Between 0 1 g → Between 0 hi (mul binary64 x g)
 unfolding mul
@@ -34,8 +33,11 @@ mul-between (inf s) g hi small p q = absurd p
 mul-between (fin s m e) nan hi small p q = absurd q
 mul-between (fin s m e) (inf t) hi small p q = absurd q
 mul-between (fin s m e) (fin t n d) hi small p q =
-    round-between (unlike s t) (m * up e * (n * up d)) (down e * down d) 0 hi (mul-pos (down-pos e) (down-pos d)) (fair (unlike s t) hi small)
-    (le-trans (mul-le-mul p q) (le-trans (le-of-eq (mul-mul-mul-comm (cond s 0 hi) (down e) (cond t 0 1) (down d))) (mul-le-mul-right (down e * down d) (signs s t hi))))
+    let num = m * up e * (n * up d) in
+    let den = down e * down d in
+    let regroup = mul-mul-mul-comm (cond s 0 hi) (down e) (cond t 0 1) (down d) in
+    round-between (unlike s t) num den 0 hi (mul-pos (down-pos e) (down-pos d)) (fair (unlike s t) hi small)
+    (le-trans (mul-le-mul p q) (le-trans (le-of-eq regroup) (mul-le-mul-right den (signs s t hi))))
 
 -- a sum of what is from 0 to a and what is from -c to c
 module _ (x y den a c : ℕ) (D : 0 < den) (small : a + c ≤ 2 ^ 53) (q : y ≤ c * den) where
@@ -50,12 +52,13 @@ module _ (x y den a c : ℕ) (D : 0 < den) (small : a + c ≤ 2 ^ 53) (q : y ≤
   unfolding sum
   sum-between false false p = large (x + y) (omega arith)
   sum-between true true p = little true (x + y) (omega arith)
-  sum-between false true p = either (Between c (a + c)) (ltb x y) (λ _. little true (y - x) (omega arith)) (λ _. large (x - y) (omega arith))
-  sum-between true false p = either (Between c (a + c)) (ltb x y) (λ _. little false (y - x) (omega arith)) (λ _. little (ltb y x) (x - y) (omega arith))
+  sum-between false true p =
+      either (Between c (a + c)) (ltb x y) (λ _. little true (y - x) (omega arith)) (λ _. large (x - y) (omega arith))
+  sum-between true false p =
+      either (Between c (a + c)) (ltb x y) (λ _. little false (y - x) (omega arith)) (λ _. little (ltb y x) (x - y) (omega arith))
 
 either-sign : (t : Bool) (c : ℕ) → cond t c c ≡ c
-either-sign false c = refl
-either-sign true c = refl
+either-sign t c = either (λ (n : ℕ). n ≡ c) t (λ _. refl) (λ _. refl)
 
 pub add-between : (x k : Float) (a c : ℕ) → a + c ≤ 2 ^ 53 → Between 0 a x → Between c c k → Between c (a + c) (add binary64 x k)
 unfolding add
@@ -64,7 +67,8 @@ add-between (inf s) k a c small p q = absurd p
 add-between (fin s m e) nan a c small p q = absurd q
 add-between (fin s m e) (inf t) a c small p q = absurd q
 add-between (fin s m e) (fin t n d) a c small p q =
+    let regroup = mul-assoc c (down d) (down e) ∙ ap (λ (z : ℕ). c * z) (mul-comm (down d) (down e)) in
     sum-between (m * up e * down d) (n * up d * down e) (down e * down d) a c (mul-pos (down-pos e) (down-pos d)) small
-    (le-trans (mul-le-mul-right (down e) (rw (← either-sign t c) q)) (le-of-eq (mul-assoc c (down d) (down e) ∙ ap (λ (z : ℕ). c * z) (mul-comm (down d) (down e)))))
+    (le-trans (mul-le-mul-right (down e) (rw (← either-sign t c) q)) (le-of-eq regroup))
     s t
     (le-trans (mul-le-mul-right (down d) p) (le-of-eq (mul-assoc (cond s 0 a) (down e) (down d))))

@@ -13,12 +13,13 @@ use lib.Ieee.Exact.{HasValue}
 use lib.Ieee.Scale.{round-same}
 use lib.Ieee.Back.{round-whole}
 use lib.Ieee.Order.{round-mono}
-use Rattle.octets.specs.Octets.{be16}
+use Rattle.octets.specs.Number.{be16}
+use Rattle.octets.proofs.Bools.{by-cases}
 use Rattle.cards.specs.Reading.{number, accepted, voltsOfRaw, voltsOfMillivolts, voltsOf, reading}
 use Rattle.cards.specs.Bounds.{Between, Bounded}
 use Rattle.cards.specs.declared.Calibration.{Calibration}
-use Rattle.cards.proofs.Either.{either}
 use Rattle.cards.proofs.Kind.{each, after16}
+use Rattle.cards.proofs.Judged.{read-accepted, read-refused}
 use Rattle.cards.proofs.Rounded.{at-most, at-least, round-between}
 use Rattle.cards.proofs.Between.{number-between, mul-between, add-between}
 
@@ -58,7 +59,8 @@ unfolding div ofInt
 quotient nan n p = absurd p
 quotient (inf s) n p = absurd p
 quotient (fin true m e) n p = absurd (true≢false (p .0))
-quotient (fin false m e) n p = round-same binary64 false (m * up e * 1) (1000 * down e) n 1000 (mul-pos (lit< tt) (down-pos e)) (lit< tt) (omega (arith, p .1))
+quotient (fin false m e) n p =
+    round-same binary64 false (m * up e * 1) (1000 * down e) n 1000 (mul-pos (lit< tt) (down-pos e)) (lit< tt) (omega (arith, p .1))
 
 millivolts-rounded : (n : ℕ) → n ≤ 65535 → voltsOfMillivolts n ≡ round binary64 false n 1000
 unfolding ofInt
@@ -69,7 +71,9 @@ millivolts-between n h = rw (millivolts-rounded n h) (round-between false n 1000
 
 -- more millivolts are never fewer volts, so no card gives more than 65,535 / 1000
 pub millivolts-grow : (n k : ℕ) → n ≤ k → k ≤ 65535 → T (le (voltsOfMillivolts n) (voltsOfMillivolts k))
-millivolts-grow n k h l = rw (millivolts-rounded n (omega arith), millivolts-rounded k l) (round-mono binary64 n 1000 k 1000 (lit< tt) (lit< tt) (omega arith))
+millivolts-grow n k h l =
+    rw (millivolts-rounded n (omega arith), millivolts-rounded k l)
+    (round-mono binary64 n 1000 k 1000 (lit< tt) (lit< tt) (omega arith))
 
 -- ---- the answer of a reading, for any octets and any calibration
 word-small : (o : List ℕ) → ((i : ℕ) → getD o i 0 < 256) → be16 (drop 1 o) 0 ≤ 65535
@@ -78,9 +82,10 @@ word-small o octets = rw (← after16 o) (omega (arith, octets 1, octets 2))
 
 pub reading-bounded : (o : List ℕ) → ((i : ℕ) → getD o i 0 < 256) → (c : Calibration) → Bounded (reading o c)
 reading-bounded o octets c =
-    either Bounded (accepted c)
+    by-cases (accepted c)
     (λ ok.
-    each (λ k. Bounded (voltsOf k c)) o tt tt tt (λ k l. tt)
+    rw (← read-accepted o c ok)
+    (each (λ k. Bounded (voltsOf k c)) o tt tt tt (λ k l. tt)
     (λ k l. raw-between (be16 (drop 1 o) 0) c (word-small o octets) (rw ok tt))
-    (λ k l. millivolts-between (be16 (drop 1 o) 0) (word-small o octets)))
-    (λ no. tt)
+    (λ k l. millivolts-between (be16 (drop 1 o) 0) (word-small o octets))))
+    (λ bad. rw (← read-refused o c bad) tt)

@@ -5,7 +5,7 @@ use mathlib.Core.Bool.{Bool, true, false}
 use mathlib.Core.List.{List, [], _∷_, map}
 use Prim.Native.Nat.{ℕ}
 use lib.Ieee.{Float, binary64, ofBits, ofInt, neg, lt, le, add, mul}
-use Rattle.octets.specs.Octets.{be16, be32}
+use Rattle.octets.specs.Number.{be16, be32}
 use Rattle.cards.specs.Payload.{nextCard}
 use Rattle.cards.specs.Walk.{walk}
 use Rattle.cards.specs.Reading.{number, accepted, reading}
@@ -19,19 +19,21 @@ abbrev double : ℕ → Float
 double = ofBits binary64
 
 -- "Raw 10, gain 0.25, offset 0.5 is 3.0"
-pub raw-ten : reading (0x11 ∷ 0 ∷ 10 ∷ []) (record { gain = double 0x3fd0_0000_0000_0000; offset = double 0x3fe0_0000_0000_0000 }) ≡ volts.FromRawCode (number 3)
-unfolding ofBits ofInt lt le neg mul add be16
+pub raw-ten : reading (0x11 ∷ 0 ∷ 10 ∷ []) (record { gain = double 0x3fd0_0000_0000_0000; offset = double 0x3fe0_0000_0000_0000 })
+    ≡ volts.FromRawCode (number 3)
+unfolding ofBits ofInt lt le neg mul add be16 reading
 raw-ten = refl
 
 -- "rounded after each operation": three thirds are 1 after the first rounding, so nothing is left; a fused step would leave -2 ^ -54
-pub two-roundings : reading (0x11 ∷ 0 ∷ 3 ∷ []) (record { gain = double 0x3fd5_5555_5555_5555; offset = neg (number 1) }) ≡ volts.FromRawCode (number 0)
-unfolding ofBits ofInt lt le neg mul add be16
+pub two-roundings : reading (0x11 ∷ 0 ∷ 3 ∷ []) (record { gain = double 0x3fd5_5555_5555_5555; offset = neg (number 1) })
+    ≡ volts.FromRawCode (number 0)
+unfolding ofBits ofInt lt le neg mul add be16 reading
 two-roundings = refl
 
 -- 22 comes before 20 and 21
 pub order : map (λ o. reading o (record { gain = number 0; offset = number 0 })) ((0x13 ∷ []) ∷ (0x11 ∷ 0 ∷ []) ∷ [] ∷ [])
     ≡ volts.Refused 22 ∷ volts.Refused 22 ∷ volts.Refused 22 ∷ []
-unfolding ofInt lt le
+unfolding ofInt lt le reading
 order = refl
 
 pub record Case (A B : Type 0) : Type 0 where
@@ -54,7 +56,7 @@ payloads =
     ∷ []
 
 pub next-cases : map (λ k. nextCard (k .given)) payloads ≡ map (λ k. k .answer) payloads
-unfolding be16 be32
+unfolding be16 be32 nextCard
 next-cases = refl
 
 pub a-walk : walk (0x12 ∷ 0x2e ∷ 0xe0 ∷ 0x10 ∷ 0 ∷ 0 ∷ 0 ∷ 9 ∷ 0x11 ∷ 0 ∷ 10 ∷ 0x00 ∷ 0xff ∷ []) ≡ record {
@@ -63,7 +65,7 @@ pub a-walk : walk (0x12 ∷ 0x2e ∷ 0xe0 ∷ 0x10 ∷ 0 ∷ 0 ∷ 0 ∷ 9 ∷ 0
   verdict = card.End;
   left = 0x00 ∷ 0xff ∷ [];
 }
-unfolding walk be16 be32
+unfolding walk nextCard be16 be32
 a-walk = refl
 
 -- ---- both sides of each edge of a calibration

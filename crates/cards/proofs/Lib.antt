@@ -1,6 +1,5 @@
-pub mod And
-pub mod Either
 pub mod Kind
+pub mod Judged
 pub mod Width
 pub mod Alone
 pub mod Walk

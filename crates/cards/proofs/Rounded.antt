@@ -67,7 +67,8 @@ of-fraction (fin t m e) s a c lo hi C p h =
     rw (p .0) (omega arith)
 
 -- the sign says which of the two numbers bounds it
-pub round-between : (s : Bool) (num den lo hi : ℕ) → 0 < den → cond s lo hi ≤ 2 ^ 53 → num ≤ cond s lo hi * den → Between lo hi (round binary64 s num den)
+pub round-between : (s : Bool) (num den lo hi : ℕ) → 0 < den → cond s lo hi ≤ 2 ^ 53 → num ≤ cond s lo hi * den
+    → Between lo hi (round binary64 s num den)
 unfolding round
 round-between s num den lo hi D small h =
     let f = binary64 in
@@ -79,5 +80,8 @@ round-between s num den lo hi D small h =
     let below : T (le x y) = round-mono f num den b 1 D (lit< tt) (omega arith) in
     let above : T (le (round f false 0 1) x) = round-mono f 0 1 num den (lit< tt) D (omega arith) in
     let fine : grid f num den < 2 ^ 2098 = round-under f num den (from-zero x y above below (value-finite y false b 1 top)) in
-    let v : (t : Bool) → HasValue (round f t num den) t (grid f num den) c = λ t. subst (λ (z : Float). HasValue z t (grid f num den) c) (sym (round-is f t num den)) (units-val f t (kept 53 (num * c) den) (drop 53 (num * c) den) fine) in
-    of-fraction (round f s num den) s (grid f num den) c lo hi (pow-pos (low f)) (v s) (fractions x y (grid f num den) c b (v false) top below)
+    let units = grid f num den in
+    let v : (t : Bool) → HasValue (round f t num den) t units c = λ t.
+    subst (λ (z : Float). HasValue z t units c) (sym (round-is f t num den))
+    (units-val f t (kept 53 (num * c) den) (drop 53 (num * c) den) fine) in
+    of-fraction (round f s num den) s units c lo hi (pow-pos (low f)) (v s) (fractions x y units c b (v false) top below)

@@ -9,7 +9,7 @@ use borrow.Author.Tests.{ltb-true, le-ltb}
 use Rattle.cards.specs.Payload.{nextCard, width, isCard, cardPart, restPart}
 use Rattle.cards.specs.Walk.{Walk, walk, walkIn, stop, step}
 use Rattle.cards.specs.declared.Card.{Card}
-use Rattle.cards.proofs.Either.{either}
+use Rattle.octets.proofs.Bools.{either}
 use Rattle.cards.proofs.Width.{width-fits}
 use Rattle.cards.proofs.Alone.{own-card}
 

@@ -1,5 +1,5 @@
--- A walk through a payload, from one rest to the next: the cards that it reaches, and the end or the refusal that it stops at.
--- Document 01, "Charge cards". Assumes nothing.
+-- Document 01, "Charge cards": a walk through a payload, from one rest to the next ("The next card comes back as a part of the caller's
+-- payload, with the rest after it"): the cards that it reaches, and the end or the refusal that it stops at. Assumes nothing.
 use Prim.Native.Nat.{ℕ, zero, suc}
 use mathlib.Core.Bool.{cond}
 use mathlib.Core.List.{List, [], _∷_}
@@ -29,6 +29,7 @@ unfoldable pub walkIn : ℕ → List ℕ → Walk
 walkIn zero o = stop o
 walkIn (suc n) o = cond (isCard (nextCard o)) (step o (walkIn n (restPart o))) (stop o)
 
+-- the whole walk
 unfoldable pub walk : List ℕ → Walk
 unfolding walkIn
 walk o = walkIn (length o) o

@@ -1,13 +1,14 @@
--- `cards::reading::accepts` meets its contract: its flag goes through the four comparisons as `accepted` does. Assumes nothing.
+-- `cards::reading::accepts` meets its promise: its flag goes through the four comparisons as `accepted` does. Assumes nothing.
 use mathlib.Core.Path.{_≡_, refl}
 use mathlib.Core.Bool.{_&&_}
 use mathlib.Core.Logic.{⊎-elim}
 use lib.Ieee.{ofBits, ofInt, neg, lt, le}
+use Rattle.octets.proofs.Bools.{and-set, and-clear}
 use Rattle.cards.specs.Reading.{number}
-use Rattle.cards.proofs.And.{and-set, and-clear}
 use Rattle.cards.proofs.reading.accepts.Statement.{statement}
 use Rattle.cards.proofs.reading.accepts.Tie as tie
 
+-- the flag after two comparisons, and after three
 two : (c : tie.Joined1)
     → let k = c .before .args .calibration in c .if1 .if2 ≡ lt (number 0) (k .gain) && le (k .gain) (number 1)
 unfolding ofBits ofInt
@@ -21,10 +22,12 @@ three c =
     let h = two (c .before) in
     ⊎-elim (λ w. and-set _ h (w .0 .taken) (w .1)) (λ w. and-clear _ h (w .0 .left) (w .1)) (c .if2 .came)
 
+-- set so far: the fourth comparison decides
 returns : tie.Need-returns
 unfolding ofBits ofInt
 returns c = and-set _ (three (c .before)) (c .if3 .taken) refl
 
+-- clear already
 returns-2 : tie.Need-returns-2
 returns-2 c = and-clear _ (three (c .before)) (c .if3 .left) refl
 
