@@ -1,13 +1,8 @@
-pub mod BoolLaws
-pub mod MarkLaws
-pub mod NeverRefused
 pub mod RuleLaws
-pub mod SetupLaws
 pub mod SoundLaws
 pub mod SoundCalls
 pub mod SoundKept
+pub mod NeverRefused
 pub mod SpanCalls
-pub mod Unique
-pub mod VectorLaws
-pub mod VectorKeeps
 pub mod Places
+pub mod Unique

@@ -6,31 +6,35 @@ use borrow.Author.Tests.{eqb-true}
 use mathlib.Core.Bool.{Bool, true, false, cond}
 use lib.Dec.{eqb}
 use mathlib.Core.List.{List, [], _∷_, map}
-use Rattle.recovery.specs.declared.Setup.{Setup}
+use Rattle.setup.specs.declared.Setup.{Setup}
 use Rattle.recovery.specs.declared.State.{State}
 use Rattle.recovery.specs.declared.Packet.{Packet}
 use Rattle.recovery.specs.declared.Packet.the-variants.{Numbered, Tagless}
+use Rattle.recovery.specs.declared.Verdict.{Verdict}
 use Rattle.recovery.specs.declared.Verdict.the-variants.{Pass, Discard}
+use Rattle.recovery.specs.declared.Begun.{Begun}
 use Rattle.recovery.specs.declared.Begun.the-variants as begun
 use Rattle.recovery.specs.declared.Heard.{Heard}
 use Rattle.recovery.specs.declared.Timed.{Timed}
 use Rattle.recovery.specs.declared.Changed.{Changed}
+use Rattle.recovery.specs.declared.Latent.{Latent}
 use Rattle.recovery.specs.declared.Latent.the-variants as latent
-use Rattle.recovery.specs.Setup.{checked}
-use Rattle.recovery.specs.State.{freshState, begunFrom, sound}
+use Rattle.setup.specs.Range.{checked}
+use Rattle.recovery.specs.Resets.{freshState, begunFrom}
+use Rattle.recovery.specs.Soundness.{sound}
 use Rattle.recovery.specs.Timer.{timed}
-use Rattle.recovery.specs.Rules.{numbered, unnumbered, heard, settled}
-use Rattle.recovery.specs.Latent.{latentError}
+use Rattle.recovery.specs.Packets.{numbered, heard, settled}
+use Rattle.rules.specs.NoNumber.{unnumbered}
+use Rattle.recovery.specs.LatentErrors.{latentError}
 use Rattle.recovery.specs.Calls.{Call, packet, tick, reset, latentReset, latentTest, ofVerdict, ofTicked, ofChange, ofLatent, refusal, after, refusals}
-use Rattle.recovery.proofs.BoolLaws.{choose-first, choose-second}
+use Rattle.octets.proofs.Bools.{either}
 use Rattle.recovery.proofs.SoundLaws.{sound-says}
 use Rattle.recovery.proofs.SoundCalls.{packet-answers, tick-answers, reset-answers, latent-reset-answers, latent-test-answers}
 use Rattle.recovery.proofs.SoundKept.{cleared-sound, heard-sound, timed-sound, reset-sound, rebased-sound}
 
 -- a verdict is no refusal
 verdict-is : (passes : Bool) → ofVerdict (cond passes Pass Discard) ≡ 0
-verdict-is true = refl
-verdict-is false = refl
+verdict-is passes = either (λ (v : Verdict). ofVerdict v ≡ 0) passes (λ _. refl) (λ _. refl)
 
 heard-is : (s : State) (p : Packet) → ofVerdict (heard s p .verdict) ≡ 0
 unfolding heard settled
@@ -39,16 +43,13 @@ heard-is s Tagless = verdict-is (unnumbered (s .setup .taken) (s .newest) (s .ma
 
 timed-is : (s : State) → ofTicked (timed s .ticked) ≡ 0
 unfolding timed
-timed-is s = by (eqb (s .left .0) 0) (eqb (s .left .0) 1) refl refl
+timed-is s = either none (eqb (s .left .0) 0) (λ _. refl) (λ _. either none (eqb (s .left .0) 1) (λ _. refl) (λ _. refl))
   where
-    by : (none one : Bool) → eqb (s .left .0) 0 ≡ none → eqb (s .left .0) 1 ≡ one → ofTicked (timed s .ticked) ≡ 0
-    by true one e₁ e₂ = rw e₁
-    by false true e₁ e₂ = rw (e₁, e₂)
-    by false false e₁ e₂ = rw (e₁, e₂)
+    none : Timed → Type 0
+    none r = ofTicked (r .ticked) ≡ 0
 
 latent-is : (wrong : Bool) → ofLatent (cond wrong latent.Error latent.Agrees) ≡ 0
-latent-is true = refl
-latent-is false = refl
+latent-is wrong = either (λ (l : Latent). ofLatent l ≡ 0) wrong (λ _. refl) (λ _. refl)
 
 -- one call on a sound state: no refusal, and a sound state again
 one-call : (s : State) → sound s ≡ true → (call : Call) → (refusal s call ≡ 0) × (sound (after s call) ≡ true)
@@ -88,13 +89,10 @@ refused-ready number s e = let z : _≡_ {A = ℕ} 0 1 = cc in omega arith
 
 pub begun-sound : (setup : Setup) (s : State) → begunFrom setup ≡ begun.Ready s → sound s ≡ true
 unfolding begunFrom
-begun-sound setup s e = by (eqb (checked setup) 0) refl
-  where
-    by : (good : Bool) → eqb (checked setup) 0 ≡ good → sound s ≡ true
-    by true g =
-        subst (λ (t : State). sound t ≡ true) (ready-one (sym (choose-first _ _ g) ∙ e))
-        (fresh-sound setup (eqb-true _ _ g))
-    by false g = absurd (refused-ready _ s (sym (choose-second _ _ g) ∙ e))
+begun-sound setup s =
+    either (λ (r : Begun). r ≡ begun.Ready s → sound s ≡ true) (eqb (checked setup) 0)
+    (λ good e. subst (λ (t : State). sound t ≡ true) (ready-one e) (fresh-sound setup (eqb-true _ _ good)))
+    (λ _ e. absurd (refused-ready _ s e))
 
 pub never-refused : (setup : Setup) (s : State) → begunFrom setup ≡ begun.Ready s → (calls : List Call) → refusals s calls ≡ map (λ (call : Call). 0) calls
 never-refused setup s e calls = sound-never-refused s (begun-sound setup s e) calls

@@ -1,7 +1,6 @@
--- The statement about places (document 01, demand 3), shown of the calls: `places`, below. It stands on the definitions of
--- `specs/Places.antt`, which packets pass and what is counted, and of `specs/Spans.antt`, what a span is and what is said of it. Beside it
--- stand the laws that the definitions mean what they say: `Nearest` (no other place with that number is nearer), `Left` (what the window
--- has left is left for good), `Sum` (the sum closes, of the definitions alone) and `Example` (document 01's figures). Assumes nothing.
+-- The statement about places (document 01, demand 3), shown of the calls: `places`, below. It stands on the definitions of `specs/Places`
+-- of the room `rules`, which packets pass and what is counted, and of `specs/Spans.antt`, what a span is and what is said of it. That single
+-- packets obey the places is shown in `rules` (proofs/Places); here it is carried over a whole span of calls. Assumes nothing.
 use mathlib.Core.Path.{_≡_}
 use mathlib.Core.Bool.{true}
 use mathlib.Core.List.{List, _∷_}
@@ -10,23 +9,16 @@ use native.Mathlib.Omega.{arith}
 use Rattle.recovery.specs.declared.State.{State}
 use Rattle.recovery.specs.declared.Packet.{Packet}
 use Rattle.recovery.specs.declared.Packet.the-variants.{Numbered, Tagless}
-use Rattle.recovery.specs.Setup.{isVector}
-use Rattle.recovery.specs.Rules.{packetOf}
-use Rattle.recovery.specs.Places.{passed}
+use Rattle.marks.specs.Window.{most}
+use Rattle.setup.specs.Range.{isVector}
+use Rattle.recovery.specs.Packets.{packetOf}
+use Rattle.rules.specs.Places.{passed}
 use Rattle.recovery.specs.Spans.{Span, starts, hears, ticks, latent-resets, latent-tests, SixteenBits, numbers, taken, Accounts}
 use Start.{started}
 use Run.{Tracks, starts-tracks, numbered-tracks, tagless-tracks, tick-tracks, latent-tracks, range, verdict-there}
-use Sum.{closes}
-pub mod Among
-pub mod Counting
-pub mod Passing
-pub mod Sum
-pub mod Nearest
-pub mod Digits
-pub mod Example
-pub mod Shown
-pub mod Step
-pub mod Left
+use Rattle.rules.proofs.Places.Sum.{closes}
+-- to be read in this order: one packet at a sound state; ticks and latent resets, which leave the places alone; what the state keeps over a
+-- span; and where a span starts
 pub mod OnePacket
 pub mod Quiet
 pub mod Run
@@ -58,7 +50,7 @@ pub places : (start : State) (packets : List Packet) (s : State) → isVector (s
 unfolding After
 places start packets s rule span =
     let track : After start packets s = run start rule packets s span in
-    let h : (1 ≤ start .setup .history) × (start .setup .history ≤ 32768) = range start rule _ _ s track in
+    let h : (1 ≤ start .setup .history) × (start .setup .history ≤ most) = range start rule _ _ s track in
     record {
       next = verdict-there start rule _ _ s track;
       passed-grown = track .passed-grown;

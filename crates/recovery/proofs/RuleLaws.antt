@@ -3,13 +3,15 @@ use Prim.Native.Nat.{ℕ}
 use mathlib.Core.Path.{_≡_, _∙_}
 use mathlib.Core.Bool.{true, false}
 use Rattle.recovery.specs.declared.State.{State}
-use Rattle.recovery.specs.Setup.{isVector}
-use Rattle.recovery.specs.Vector.{vector}
-use Rattle.recovery.specs.Rules.{first, match, numbered}
-use Rattle.recovery.proofs.BoolLaws.{choose-first, choose-second}
+use Rattle.setup.specs.Range.{isVector}
+use Rattle.rules.specs.Vector.{vector}
+use Rattle.rules.specs.TakeAny.{first}
+use Rattle.rules.specs.Matching.{match}
+use Rattle.recovery.specs.Packets.{numbered}
+use Rattle.octets.proofs.Bools.{choose-first, choose-second}
 
 module _ (s : State) (number : ℕ) where
-  pub by-take-any : s .«take_any» ≡ true → numbered s number ≡ first s number
+  pub by-take-any : s .«take_any» ≡ true → numbered s number ≡ first (isVector (s .setup)) number
   unfolding numbered
   by-take-any e = choose-first _ _ e
 

@@ -5,11 +5,12 @@ use Rattle.recovery.specs.declared.State.{State}
 use Rattle.recovery.specs.declared.Packet.{Packet}
 use Rattle.recovery.specs.declared.Change.the-variants as change
 use Rattle.recovery.specs.declared.Latent.the-variants as latent
-use Rattle.recovery.specs.State.{sound, resetState, resetOf}
+use Rattle.recovery.specs.Soundness.{sound}
+use Rattle.recovery.specs.Resets.{resetState, resetOf}
 use Rattle.recovery.specs.Timer.{timed, tickOf}
-use Rattle.recovery.specs.Rules.{heard, packetOf}
-use Rattle.recovery.specs.Latent.{rebased, latentError, latentResetOf, latentTestOf}
-use Rattle.recovery.proofs.BoolLaws.{choose-first}
+use Rattle.recovery.specs.Packets.{heard, packetOf}
+use Rattle.recovery.specs.LatentErrors.{rebased, latentError, latentResetOf, latentTestOf}
+use Rattle.octets.proofs.Bools.{choose-first}
 
 module _ (s : State) (ok : sound s ≡ true) where
   pub packet-answers : (p : Packet) → packetOf s p ≡ heard s p

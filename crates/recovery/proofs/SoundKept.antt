@@ -1,30 +1,35 @@
 -- A fresh state is sound, and every step keeps a sound state sound. Assumes nothing.
-use Prim.Native.Nat.{ℕ, zero-le, _-_, _%_, _^_, _<_, _≤_}
-use mathlib.Core.Path.{_≡_, refl, sym, subst, _∙_}
+use Prim.Native.Nat.{ℕ, zero-le, _-_, _≤_}
+use mathlib.Core.Path.{_≡_, refl}
 use mathlib.Core.Bool.{Bool, true, false, cond, not, _&&_, _||_, or-true}
 use lib.Dec.{leb, eqb}
-use lib.Pow.{pow-pos, pow-mono}
 use borrow.Author.Tests.{le-leb, leb-true, eqb-true, eqb-false, eq-eqb}
 use native.Mathlib.Nat.{le-refl}
 use native.Mathlib.Omega.{arith}
-use Rattle.recovery.specs.declared.Setup.{Setup}
+use Rattle.octets.proofs.Bools.{either, both, and-true}
+use Rattle.setup.specs.declared.Setup.{Setup}
+use Rattle.setup.specs.Range.{checked, isVector, fullOf}
+use Rattle.setup.proofs.InRange.{in-range, full-positive}
+use Rattle.marks.specs.Window.{most, mark, clearFrom, none}
+use Rattle.marks.proofs.Moves.{none-from}
 use Rattle.recovery.specs.declared.Counters.{Counters}
 use Rattle.recovery.specs.declared.State.{State}
 use Rattle.recovery.specs.declared.Packet.{Packet}
 use Rattle.recovery.specs.declared.Packet.the-variants.{Numbered, Tagless}
-use Rattle.recovery.specs.Marks.{mark}
-use Rattle.recovery.specs.Vector.{Seen, discarded, vector}
-use Rattle.recovery.specs.Setup.{checked, isVector, fullOf}
-use Rattle.recovery.specs.State.{cleared, resetState, awaits, sound}
+use Rattle.recovery.specs.declared.Timed.{Timed}
+use Rattle.rules.specs.declared.Effect.{Effect}
+use Rattle.rules.specs.Effects.{accepted, discarded}
+use Rattle.rules.specs.Vector.{vector}
+use Rattle.recovery.specs.Soundness.{awaits, sound}
+use Rattle.recovery.specs.Resets.{cleared, resetState}
 use Rattle.recovery.specs.Timer.{restarted, withLeft, timed}
-use Rattle.recovery.specs.Rules.{accepted, unnumbered, first, match, numbered, settled, heard}
-use Rattle.recovery.specs.Latent.{rebased}
-use Rattle.recovery.proofs.BoolLaws.{both, and-true}
-use Rattle.recovery.proofs.SetupLaws.{in-range, full-positive}
+use Rattle.rules.specs.NoNumber.{unnumbered}
+use Rattle.rules.specs.TakeAny.{firstMarks, first}
+use Rattle.rules.specs.Matching.{match}
+use Rattle.recovery.specs.Packets.{numbered, settled, heard}
+use Rattle.recovery.specs.LatentErrors.{rebased}
 use Rattle.recovery.proofs.SoundLaws.{Sound, sound-by}
-use Rattle.recovery.proofs.MarkLaws.{first-mark}
-use Rattle.recovery.proofs.RuleLaws.{by-take-any, by-vector, by-match}
-use Rattle.recovery.proofs.VectorKeeps.{vector-keeps}
+use Rattle.rules.proofs.VectorKeeps.{set-first, vector-keeps}
 
 pub cleared-sound : (setup : Setup) (counters : Counters) (base : ℕ) → checked setup ≡ 0 → sound (cleared setup counters base) ≡ true
 unfolding awaits
@@ -32,9 +37,9 @@ cleared-sound setup counters base e =
     sound-by (cleared setup counters base)
     (record {
       in-range = e;
-      clear-above = pow-pos (setup .history);
-      awaits-rightly = refl;
-      match-bare = or-true (isVector setup);
+      clear-above = none-from (setup .history);
+      awaits-rightly = none-from 0;
+      match-bare = rw (none-from 0) (or-true (isVector setup));
       left-below = zero-le;
     })
 
@@ -46,21 +51,30 @@ awaits-on : (takeAny bare marked : Bool) (left later : ℕ) → 1 ≤ later → 
 awaits-on true bare marked left later p e = e
 awaits-on false bare marked left later p e = and-true (le-leb 1 later p) (both (leb 1 left) marked e .1)
 
--- the first marks: mark 0 under vector only
-first-fits : (vector : Bool) (h : ℕ) → 2 ≤ h → cond vector 1 0 < 2 ^ h
-first-fits true h p = omega (arith, pow-mono p)
-first-fits false h p = pow-pos h
+-- the marks of a first number: mark 0 under vector, and none under match
+record FirstMarks (vector : Bool) (h : ℕ) : Type 0 where
+  fits : clearFrom h (firstMarks vector) ≡ true
+  bare : (vector || clearFrom 0 (firstMarks vector)) ≡ true
+  marked : (not vector || eqb (mark 0 (firstMarks vector)) 1) ≡ true
 
-first-bare : (vector : Bool) → (vector || eqb (cond vector 1 0) 0) ≡ true
-first-bare true = refl
-first-bare false = refl
-
-first-marked : (vector : Bool) → (not vector || eqb (mark 0 (cond vector 1 0)) 1) ≡ true
-unfolding mark
-first-marked true = refl
-first-marked false = refl
+first-marks : (vector : Bool) (h : ℕ) → 1 ≤ h → h ≤ most → FirstMarks vector h
+unfolding firstMarks
+first-marks true h low high =
+    let kept = set-first h low high none (none-from h) in
+    record { fits = kept .0; bare = refl; marked = eq-eqb _ _ (kept .1) }
+first-marks false h low high = record { fits = none-from h; bare = none-from 0; marked = refl }
 
 module _ (s : State) (ok : Sound s) where
+  -- the state that a packet's effect leaves is sound
+  abbrev After : Bool → ℕ → Effect → Type 0
+  After takeAny tagless effect = sound (settled s takeAny tagless effect .state) ≡ true
+
+  history-low : 1 ≤ s .setup .history
+  history-low = omega (arith, in-range (s .setup) (ok .in-range) .history)
+
+  history-high : s .setup .history ≤ most
+  history-high = omega (arith, in-range (s .setup) (ok .in-range) .history)
+
   -- ticks left after a packet
   left-below : (passes : Bool) → restarted passes (s .setup) (s .left) .0 ≤ fullOf (s .setup) .0
   unfolding restarted
@@ -72,47 +86,43 @@ module _ (s : State) (ok : Sound s) where
   left-some true p = full-positive (s .setup) (ok .in-range)
   left-some false p = p
 
-  next-sound : (takeAny : Bool) (tagless : ℕ) (seen : Seen) → seen .marks < 2 ^ s .setup .history
-      → (isVector (s .setup) || eqb (seen .marks) 0) ≡ true
-      → awaits (settled s takeAny tagless seen .state) ≡ true
-      → sound (settled s takeAny tagless seen .state) ≡ true
+  next-sound : (takeAny : Bool) (tagless : ℕ) (effect : Effect) → clearFrom (s .setup .history) (effect .marks) ≡ true
+      → (isVector (s .setup) || clearFrom 0 (effect .marks)) ≡ true
+      → awaits (settled s takeAny tagless effect .state) ≡ true
+      → After takeAny tagless effect
   unfolding settled
-  next-sound takeAny tagless seen fits bare await =
-      sound-by (settled s takeAny tagless seen .state)
+  next-sound takeAny tagless effect fits bare await =
+      sound-by (settled s takeAny tagless effect .state)
       (record {
         in-range = ok .in-range;
         clear-above = fits;
         awaits-rightly = await;
         match-bare = bare;
-        left-below = left-below (seen .passes);
+        left-below = left-below (effect .passes);
       })
 
-  tagless-sound : sound (settled s (s .«take_any») 1 (unnumbered (s .setup .taken) (s .newest) (s .marks)) .state) ≡ true
-  unfolding unnumbered settled awaits restarted discarded
-  tagless-sound = by (eqb (s .setup .taken) 1) refl
-    where
-      by : (taken : Bool) → eqb (s .setup .taken) 1 ≡ taken → sound (settled s (s .«take_any») 1 (unnumbered (s .setup .taken) (s .newest) (s .marks)) .state) ≡ true
-      by true e =
-          rw e
-          (next-sound (s .«take_any») 1 (accepted (s .newest) (s .marks) 0) (ok .clear-above) (ok .match-bare)
-          (awaits-on (s .«take_any») _ _ (s .left .0) _ (full-positive (s .setup) (ok .in-range)) (ok .awaits-rightly)))
-      by false e =
-          rw e
-          (next-sound (s .«take_any») 1 (discarded (s .newest) (s .marks) 0) (ok .clear-above) (ok .match-bare) (ok .awaits-rightly))
+  tagless-sound : After (s .«take_any») 1 (unnumbered (s .setup .taken) (s .newest) (s .marks))
+  unfolding unnumbered settled awaits restarted
+  tagless-sound =
+      either (After (s .«take_any») 1) (eqb (s .setup .taken) 1)
+      (λ _. next-sound (s .«take_any») 1 (accepted (s .newest) (s .marks) 0) (ok .clear-above) (ok .match-bare)
+      (awaits-on (s .«take_any») _ _ (s .left .0) _ (full-positive (s .setup) (ok .in-range)) (ok .awaits-rightly)))
+      (λ _. next-sound (s .«take_any») 1 (discarded (s .newest) (s .marks) 0) (ok .clear-above) (ok .match-bare) (ok .awaits-rightly))
 
   -- a packet with a number leaves take-any off
-  off-sound : (seen : Seen) → seen .marks < 2 ^ s .setup .history → (isVector (s .setup) || eqb (seen .marks) 0) ≡ true
-      → (not (isVector (s .setup)) || eqb (mark 0 (seen .marks)) 1) ≡ true
-      → 1 ≤ restarted (seen .passes) (s .setup) (s .left) .0
-      → sound (settled s false 0 seen .state) ≡ true
+  off-sound : (effect : Effect) → clearFrom (s .setup .history) (effect .marks) ≡ true
+      → (isVector (s .setup) || clearFrom 0 (effect .marks)) ≡ true
+      → (not (isVector (s .setup)) || eqb (mark 0 (effect .marks)) 1) ≡ true
+      → 1 ≤ restarted (effect .passes) (s .setup) (s .left) .0
+      → After false 0 effect
   unfolding settled awaits
-  off-sound seen fits bare marked left = next-sound false 0 seen fits bare (and-true (le-leb 1 _ left) marked)
+  off-sound effect fits bare marked left = next-sound false 0 effect fits bare (and-true (le-leb 1 _ left) marked)
 
-  first-sound : (number : ℕ) → sound (settled s false 0 (first s number) .state) ≡ true
+  first-sound : (number : ℕ) → After false 0 (first (isVector (s .setup)) number)
   unfolding first restarted
   first-sound number =
-      let vector = isVector (s .setup) in
-      off-sound (first s number) (first-fits vector (s .setup .history) (in-range (s .setup) (ok .in-range) .history .0)) (first-bare vector) (first-marked vector) (full-positive (s .setup) (ok .in-range))
+      let m = first-marks (isVector (s .setup)) (s .setup .history) history-low history-high in
+      off-sound (first (isVector (s .setup)) number) (m .fits) (m .bare) (m .marked) (full-positive (s .setup) (ok .in-range))
 
   module _ (off : s .«take_any» ≡ false) where
     when-off : (leb 1 (s .left .0) && (not (isVector (s .setup)) || eqb (mark 0 (s .marks)) 1)) ≡ true
@@ -122,35 +132,26 @@ module _ (s : State) (ok : Sound s) where
     left : 1 ≤ s .left .0
     left = leb-true 1 _ (both (leb 1 (s .left .0)) _ when-off .0)
 
-    vector-sound : (number : ℕ) → isVector (s .setup) ≡ true → sound (settled s false 0 (vector (s .setup .history) (s .newest) (s .marks) number) .state) ≡ true
+    vector-sound : (number : ℕ) → isVector (s .setup) ≡ true → After false 0 (vector (s .setup .history) (s .newest) (s .marks) number)
     vector-sound number v =
-        let seen = vector (s .setup .history) (s .newest) (s .marks) number in
+        let effect = vector (s .setup .history) (s .newest) (s .marks) number in
         let marked : eqb (mark 0 (s .marks)) 1 ≡ true = rw v at (both (leb 1 (s .left .0)) _ when-off .1) in
-        let odd : s .marks % 2 ≡ 1 = sym (first-mark (s .marks)) ∙ eqb-true _ _ marked in
-        let kept = vector-keeps (s .setup .history) (s .newest) (s .marks) (omega (arith, in-range (s .setup) (ok .in-range) .history)) (ok .clear-above) odd number in
-        off-sound seen (kept .0) (rw v) (rw (v, eq-eqb _ _ (first-mark (seen .marks) ∙ kept .1))) (left-some (seen .passes) left)
+        let kept = vector-keeps (s .setup .history) history-low history-high (s .newest) (s .marks) (ok .clear-above, eqb-true _ _ marked) number in
+        off-sound effect (kept .0) (rw v) (rw (v, eq-eqb _ _ (kept .1))) (left-some (effect .passes) left)
 
-    match-sound : (number : ℕ) → isVector (s .setup) ≡ false → sound (settled s false 0 (match (s .newest) (s .marks) number) .state) ≡ true
-    unfolding match discarded
-    match-sound number v = by (eqb number (s .newest)) refl
+    match-sound : (number : ℕ) → isVector (s .setup) ≡ false → After false 0 (match (s .newest) (s .marks) number)
+    unfolding match
+    match-sound number v = either (After false 0) (eqb number (s .newest)) (λ _. same _ refl) (λ _. same _ refl)
       where
-        same : (seen : Seen) → seen .marks ≡ s .marks → sound (settled s false 0 seen .state) ≡ true
-        same seen e = off-sound seen (rw e (ok .clear-above)) (rw e (ok .match-bare)) (rw v) (left-some (seen .passes) left)
+        same : (effect : Effect) → effect .marks ≡ s .marks → After false 0 effect
+        same effect e = off-sound effect (rw e (ok .clear-above)) (rw e (ok .match-bare)) (rw v) (left-some (effect .passes) left)
 
-        by : (equal : Bool) → eqb number (s .newest) ≡ equal → sound (settled s false 0 (match (s .newest) (s .marks) number) .state) ≡ true
-        by true e = rw e (same _ refl)
-        by false e = rw e (same _ refl)
-
-  numbered-sound : (number : ℕ) → sound (settled s false 0 (numbered s number) .state) ≡ true
-  numbered-sound number = by (s .«take_any») (isVector (s .setup)) refl refl
-    where
-      like : {seen : Seen} → numbered s number ≡ seen → sound (settled s false 0 seen .state) ≡ true → sound (settled s false 0 (numbered s number) .state) ≡ true
-      like e kept = subst (λ (seen : Seen). sound (settled s false 0 seen .state) ≡ true) (sym e) kept
-
-      by : (takeAny vector : Bool) → s .«take_any» ≡ takeAny → isVector (s .setup) ≡ vector → sound (settled s false 0 (numbered s number) .state) ≡ true
-      by true vector e v = like (by-take-any s number e) (first-sound number)
-      by false true e v = like (by-vector s number e v) (vector-sound e number v)
-      by false false e v = like (by-match s number e v) (match-sound e number v)
+  numbered-sound : (number : ℕ) → After false 0 (numbered s number)
+  unfolding numbered
+  numbered-sound number =
+      either (After false 0) (s .«take_any»)
+      (λ _. first-sound number)
+      (λ off. either (After false 0) (isVector (s .setup)) (vector-sound off number) (match-sound off number))
 
   pub heard-sound : (packet : Packet) → sound (heard s packet .state) ≡ true
   unfolding heard
@@ -163,22 +164,25 @@ module _ (s : State) (ok : Sound s) where
 
   pub timed-sound : sound (timed s .state) ≡ true
   unfolding timed resetState awaits
-  timed-sound = by (eqb (s .left .0) 0) (eqb (s .left .0) 1) refl refl
+  timed-sound =
+      either still (eqb (s .left .0) 0)
+      (λ _. sound-by s ok)
+      (λ some. either still (eqb (s .left .0) 1) (λ _. cleared-sound _ _ _ (ok .in-range)) (λ more. less some more))
     where
-      by : (none one : Bool) → eqb (s .left .0) 0 ≡ none → eqb (s .left .0) 1 ≡ one → sound (timed s .state) ≡ true
-      by true one e₁ e₂ = rw e₁ (sound-by s ok)
-      by false true e₁ e₂ = rw (e₁, e₂) (cleared-sound _ _ _ (ok .in-range))
-      by false false e₁ e₂ =
-          let more : 2 ≤ s .left .0 = omega (arith, eqb-false (s .left .0) 0 e₁, eqb-false (s .left .0) 1 e₂) in
-          rw (e₁, e₂)
-          (sound-by (withLeft (s .left .0 - 1) s)
+      still : Timed → Type 0
+      still r = sound (r .state) ≡ true
+
+      less : eqb (s .left .0) 0 ≡ false → eqb (s .left .0) 1 ≡ false → sound (withLeft (s .left .0 - 1) s) ≡ true
+      less some more =
+          let two : 2 ≤ s .left .0 = omega (arith, eqb-false (s .left .0) 0 some, eqb-false (s .left .0) 1 more) in
+          sound-by (withLeft (s .left .0 - 1) s)
           (record {
             in-range = ok .in-range;
             clear-above = ok .clear-above;
             awaits-rightly = awaits-on (s .«take_any») _ _ (s .left .0) (s .left .0 - 1) (omega arith) (ok .awaits-rightly);
             match-bare = ok .match-bare;
             left-below = omega (arith, ok .left-below);
-          }))
+          })
 
   pub rebased-sound : sound (rebased s) ≡ true
   unfolding rebased sound awaits

@@ -9,12 +9,16 @@ use native.Mathlib.Omega.{arith}
 use Rattle.recovery.specs.declared.State.{State}
 use Rattle.recovery.specs.declared.Ticked.the-variants.{Tick, Reset}
 use Rattle.recovery.specs.declared.Packet.the-variants.{Numbered, Tagless}
-use Rattle.recovery.specs.Setup.{isVector}
-use Rattle.recovery.specs.State.{sound, resetState}
+use Rattle.setup.specs.Range.{isVector}
+use Rattle.recovery.specs.Soundness.{sound}
+use Rattle.recovery.specs.Resets.{resetState}
 use Rattle.recovery.specs.Timer.{withLeft, timed, tickOf}
-use Rattle.recovery.specs.Vector.{vector}
-use Rattle.recovery.specs.Rules.{unnumbered, first, match, numbered, settled, heard, packetOf}
-use Rattle.recovery.proofs.BoolLaws.{choose-first, choose-second}
+use Rattle.rules.specs.Vector.{vector}
+use Rattle.rules.specs.NoNumber.{unnumbered}
+use Rattle.rules.specs.TakeAny.{first}
+use Rattle.rules.specs.Matching.{match}
+use Rattle.recovery.specs.Packets.{numbered, settled, heard, packetOf}
+use Rattle.octets.proofs.Bools.{choose-first, choose-second}
 use Rattle.recovery.proofs.RuleLaws.{by-take-any, by-vector, by-match}
 use Rattle.recovery.proofs.SoundCalls.{packet-answers, tick-answers}
 
@@ -23,7 +27,7 @@ module _ (s : State) (ok : sound s ≡ true) where
   unfolding heard
   numbered-answers number = packet-answers s ok (Numbered number)
 
-  pub first-answers : (number : ℕ) → s .«take_any» ≡ true → packetOf s (Numbered number) ≡ settled s false 0 (first s number)
+  pub first-answers : (number : ℕ) → s .«take_any» ≡ true → packetOf s (Numbered number) ≡ settled s false 0 (first (isVector (s .setup)) number)
   first-answers number any = numbered-answers number ∙ ap (settled s false 0) (by-take-any s number any)
 
   pub vector-answers : (number : ℕ) → s .«take_any» ≡ false → isVector (s .setup) ≡ true → packetOf s (Numbered number) ≡ settled s false 0 (vector (s .setup .history) (s .newest) (s .marks) number)

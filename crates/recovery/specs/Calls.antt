@@ -11,10 +11,10 @@ use Rattle.recovery.specs.declared.Change.{Change}
 use Rattle.recovery.specs.declared.Change.the-variants as change
 use Rattle.recovery.specs.declared.Latent.{Latent}
 use Rattle.recovery.specs.declared.Latent.the-variants as latent
-use Rattle.recovery.specs.State.{resetOf}
+use Rattle.recovery.specs.Resets.{resetOf}
 use Rattle.recovery.specs.Timer.{tickOf}
-use Rattle.recovery.specs.Rules.{packetOf}
-use Rattle.recovery.specs.Latent.{latentResetOf, latentTestOf}
+use Rattle.recovery.specs.Packets.{packetOf}
+use Rattle.recovery.specs.LatentErrors.{latentResetOf, latentTestOf}
 
 pub data Call : Type 0 where
   packet : Packet → Call

@@ -1,12 +1,12 @@
--- A span (document 01, demand 3), and what is said of it. A span goes from a fresh start or a reset (a timeout is one, a latent
--- reset is not) to the next. Each of its steps is one call, of which only that call's promise is known. Assumes nothing.
+-- A span, and what the third demand says of it: "Under the vector rule, from a fresh start or a reset (a timeout is one, a latent reset is
+-- not) to the next". Each of its steps is one call, of which only that call's promise is known. Assumes nothing.
 use Prim.Native.Nat.{ℕ, _+_, _%_, _^_, _<_}
 use mathlib.Core.Path.{_≡_}
 use mathlib.Core.Bool.{cond}
 use mathlib.Core.List.{List, [], _∷_}
 use lib.Dec.{eqb}
 use lib.ListN.{length}
-use Rattle.recovery.specs.declared.Setup.{Setup}
+use Rattle.setup.specs.declared.Setup.{Setup}
 use Rattle.recovery.specs.declared.State.{State}
 use Rattle.recovery.specs.declared.Begun.the-variants.{Ready}
 use Rattle.recovery.specs.declared.Packet.{Packet}
@@ -18,8 +18,11 @@ use Rattle.recovery.specs.declared.Ticked.the-variants.{Reset}
 use Rattle.recovery.specs.declared.Changed.{Changed}
 use Rattle.recovery.specs.declared.Change.the-variants.{Done}
 use Rattle.recovery.specs.declared.Latent.{Latent}
-use Rattle.recovery.specs.Promises.{Begins, Hears, Times, Resets, LatentResets, LatentTests}
-use Rattle.recovery.specs.Places.{passes, passed, window, movedOn, lost, stillOpen}
+use Rattle.recovery.specs.Resets.{Begins, Resets}
+use Rattle.recovery.specs.Packets.{Hears}
+use Rattle.recovery.specs.Timer.{Times}
+use Rattle.recovery.specs.LatentErrors.{LatentResets, LatentTests}
+use Rattle.rules.specs.Places.{passes, passed, window, movedOn, lost, stillOpen}
 
 -- the state that a fresh start, a reset or a timeout hands back
 pub data Starts : State → Type 0 where
@@ -51,19 +54,21 @@ numbers [] = []
 numbers (Numbered number ∷ older) = number ∷ numbers older
 numbers (Tagless ∷ older) = numbers older
 
--- how many packets without a number are taken
+-- "passed also by packets taken without a number": how many there are
 unfoldable pub taken : Setup → List Packet → ℕ
 taken setup [] = 0
 taken setup (Numbered number ∷ older) = taken setup older
 taken setup (Tagless ∷ older) = taken setup older + cond (eqb (setup .taken) 1) 1 0
 
--- a counter has grown by n modulo 2^64
+-- "stored passed and lost grow by these counts modulo 2^64": a counter has grown by n
 abbrev pub Grown : ℕ → ℕ → ℕ → Type 0
 Grown before n now = now % 2 ^ 64 ≡ (before + n) % 2 ^ 64
 
--- Demand 3 of the state after the packets, with `places` those that the places' rule lets pass: the next numbered packet gets the verdict
+-- The demand of the state after the packets, with `places` those that the places' rule lets pass: the next numbered packet gets the verdict
 -- that the places say, whatever it is; passed has grown by the places passed and the packets taken without a number, and lost by the
--- places lost; and the sum closes. What has happened in a span up to any one event is a span, so this is said after each event.
+-- places lost; "And the sum closes: places in the window at the first numbered packet, plus places the window moved on, equal numbered
+-- packets passed, plus places lost, plus those still open". What has happened in a span up to any one event is a span, so "it holds after
+-- each event".
 pub record Accounted (h : ℕ) (places : List ℕ) (start : State) (packets : List Packet) (s : State) : Type 0 where
   pub next : (number : ℕ) (r : Heard) → number < 65536 → Hears s (Numbered number) r → r .verdict ≡ cond (passes h places number) Pass Discard
   pub passed-grown : Grown (start .counters .passed) (length places + taken (start .setup) packets) (s .counters .passed)

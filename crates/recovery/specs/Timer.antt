@@ -1,16 +1,18 @@
 -- The timer: when a packet restarts it, and the tick (document 01, "Numbering and recovery"). Assumes nothing.
 use Prim.Native.Nat.{ℕ, _-_}
+use mathlib.Core.Path.{_≡_}
 use mathlib.Core.Bool.{Bool, cond}
 use lib.Dec.{eqb}
-use Rattle.recovery.specs.declared.Ticks.{Ticks}
-use Rattle.recovery.specs.declared.Setup.{Setup}
+use Rattle.setup.specs.declared.Ticks.{Ticks}
+use Rattle.setup.specs.declared.Setup.{Setup}
+use Rattle.setup.specs.Range.{fullOf}
 use Rattle.recovery.specs.declared.State.{State}
 use Rattle.recovery.specs.declared.Timed.{Timed}
 use Rattle.recovery.specs.declared.Ticked.the-variants as ticked
-use Rattle.recovery.specs.Setup.{fullOf}
-use Rattle.recovery.specs.State.{sound, resetState}
+use Rattle.recovery.specs.Soundness.{sound}
+use Rattle.recovery.specs.Resets.{resetState}
 
--- only a passed packet sets ticks left to full ticks, whatever the use
+-- "Only a passed packet sets ticks left to full ticks, whatever the use"
 unfoldable pub restarted : Bool → Setup → Ticks → Ticks
 restarted passes setup left = cond passes (fullOf setup) left
 
@@ -27,7 +29,7 @@ withLeft left s =
       base = s .base;
     }
 
--- tick: 0 stays 0; from 1 it becomes 0 and a reset follows; else less 1
+-- "Tick: 0 stays 0; from 1 it becomes 0 and a reset follows; else less 1"
 unfoldable pub timed : State → Timed
 timed s =
     cond (eqb (s .left .0) 0)
@@ -39,3 +41,7 @@ timed s =
 -- the call `tick`: a state that is not sound answers 14 and comes back as it was
 unfoldable pub tickOf : State → Timed
 tickOf s = cond (sound s) (timed s) (record { ticked = ticked.Refused 14; state = s })
+
+-- the promise of `State::tick`
+abbrev pub Times : State → Timed → Type 0
+Times s r = r ≡ tickOf s

@@ -1,14 +1,13 @@
 // The latent figure, reset and test, modulo 2^64.
 ghost use mathlib.Core.Path.{_≡_};
 ghost use Prim.Native.Nat.{_≤_, _*_, _%_, _^_};
-ghost use Rattle.recovery.specs.Latent.{less, absolute, figure};
-ghost use Rattle.recovery.specs.Promises.{LatentResets, LatentTests};
+ghost use Rattle.recovery.specs.LatentErrors.{less, absolute, figure, LatentResets, LatentTests};
 use crate::Change;
 use crate::Changed;
 use crate::Counters;
 use crate::Latent;
-use crate::Setup;
 use crate::State;
+use setup::Setup;
 
 fn less_by(a: u64, b: u64) -> u64
     ensures { λ r. ⌜ r ≡ less a b ⌝ }
@@ -36,7 +35,7 @@ fn absolute_of(n: u64) -> u64
     }
 }
 
-// passed x (paths - 1) - discarded.
+// passed x (paths - 1) - discarded, of at least one path.
 fn figure_of(k: Counters, paths: u8) -> u64
     requires { ⌜ 1 ≤ paths ⌝ }
     ensures { λ r. ⌜ r ≡ figure k paths ⌝ }

@@ -1,24 +1,25 @@
 // A fresh state, and a reset.
 ghost use mathlib.Core.Path.{_≡_};
-ghost use Rattle.recovery.specs.State.{cleared, resetState};
-ghost use Rattle.recovery.specs.Promises.{Begins, Resets};
+ghost use Rattle.recovery.specs.Resets.{cleared, resetState, Begins, Resets};
 use crate::Begun;
 use crate::Change;
 use crate::Changed;
 use crate::Counters;
-use crate::Setup;
 use crate::State;
-use crate::Ticks;
+use marks::Marks;
+use setup::Setup;
+use setup::Ticks;
 
 // What fresh and reset have in common.
 fn clear(setup: Setup, counters: Counters, base: u64) -> State
     ensures { λ r. ⌜ r ≡ cleared setup counters base ⌝ }
 {
     let left = Ticks(0);
+    let marks = marks::none();
     State {
         setup,
         newest: 65535,
-        marks: 0,
+        marks,
         take_any: true,
         left,
         counters,

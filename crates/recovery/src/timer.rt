@@ -1,12 +1,11 @@
 // The timer: the one rule by which a packet restarts it, and the tick.
 ghost use mathlib.Core.Path.{_≡_};
-ghost use Rattle.recovery.specs.Timer.{restarted};
-ghost use Rattle.recovery.specs.Promises.{Times};
-use crate::Setup;
+ghost use Rattle.recovery.specs.Timer.{restarted, Times};
 use crate::State;
 use crate::Ticked;
-use crate::Ticks;
 use crate::Timed;
+use setup::Setup;
+use setup::Ticks;
 
 // Ticks left after a packet: only one that passes restarts the timer.
 pub(crate) fn left_after(passes: bool, setup: Setup, left: Ticks) -> Ticks
@@ -39,8 +38,9 @@ impl State {
                 state,
             }
         } else {
-            let less = Ticks(left.0 - 1);
-            self.left = less;
+            let fewer = left.0 - 1;
+            let left = Ticks(fewer);
+            self.left = left;
             Timed {
                 ticked: Ticked::Tick,
                 state: self,

@@ -4,9 +4,9 @@ use mathlib.Core.Bool.{true}
 use Rattle.recovery.specs.declared.State.{State}
 use Rattle.recovery.specs.declared.Timed.{Timed}
 use Rattle.recovery.specs.declared.Ticked.the-variants.{Reset}
-use Rattle.recovery.specs.State.{sound}
+use Rattle.recovery.specs.Soundness.{sound}
 use Rattle.recovery.specs.Timer.{tickOf}
-use Rattle.recovery.specs.Latent.{rebased, latentCounted}
+use Rattle.recovery.specs.LatentErrors.{rebased, latentCounted}
 use Rattle.recovery.proofs.SpanCalls.{quiet-tick, timeout-tick}
 
 abbrev pub Alike : State → State → Type 0

@@ -8,26 +8,27 @@ use native.Mathlib.Nat.{add-assoc, add-zero, mod-add-mod, mod-mod}
 use native.Mathlib.Omega.{arith}
 use lib.Dec.{eqb}
 use lib.ListN.{length}
-use Rattle.recovery.specs.declared.Setup.{Setup}
+use Rattle.setup.specs.declared.Setup.{Setup}
 use Rattle.recovery.specs.declared.State.{State}
 use Rattle.recovery.specs.declared.Packet.the-variants.{Numbered, Tagless}
 use Rattle.recovery.specs.declared.Heard.{Heard}
 use Rattle.recovery.specs.declared.Verdict.the-variants.{Pass, Discard}
 use Rattle.recovery.specs.declared.Ticked.the-variants.{Reset}
-use Rattle.recovery.specs.Setup.{isVector}
-use Rattle.recovery.specs.State.{plus, sound}
-use Rattle.recovery.specs.Rules.{numbered, counted, settled, heard, packetOf}
+use Rattle.marks.specs.Window.{most}
+use Rattle.setup.specs.Range.{isVector}
+use Rattle.recovery.specs.Counting.{plus}
+use Rattle.recovery.specs.Soundness.{sound}
+use Rattle.recovery.specs.Packets.{numbered, counted, settled, heard, packetOf, Hears}
 use Rattle.recovery.specs.Timer.{tickOf}
-use Rattle.recovery.specs.Latent.{rebased, latentResetOf}
-use Rattle.recovery.specs.Promises.{Hears}
-use Rattle.recovery.specs.Places.{passes, after, lost}
+use Rattle.recovery.specs.LatentErrors.{rebased, latentResetOf}
+use Rattle.rules.specs.Places.{passes, after, lost}
 use Rattle.recovery.specs.Spans.{Grown}
-use Rattle.recovery.proofs.SetupLaws.{in-range}
+use Rattle.setup.proofs.InRange.{in-range}
 use Rattle.recovery.proofs.SoundLaws.{Sound, sound-says}
 use Rattle.recovery.proofs.SoundCalls.{packet-answers, tick-answers, latent-reset-answers}
 use Rattle.recovery.proofs.SoundKept.{heard-sound, timed-sound, rebased-sound}
-use Rattle.recovery.proofs.Places.Step.{Steps, lost-none}
-use Rattle.recovery.proofs.Places.OnePacket.{Stands, stands-of, numbered-steps, one-more, untouched}
+use Rattle.rules.proofs.Places.Step.{Obeys, lost-none}
+use Rattle.recovery.proofs.Places.OnePacket.{Stands, stands-of, numbered-obeys, one-more, untouched}
 use Rattle.recovery.proofs.Places.Quiet.{Alike, tick-alike, latent-alike}
 
 pub record Tracks (start : State) (ps : List ℕ) (tags : ℕ) (s : State) : Type 0 where
@@ -63,13 +64,13 @@ module _ (start : State) (rule : isVector (start .setup) ≡ true) where
     ok = sound-says s (track .still-sound)
 
     -- all that the places ask of the history length
-    pub range : (1 ≤ h) × (h ≤ 32768)
+    pub range : (1 ≤ h) × (h ≤ most)
     range = omega (arith, rw (track .same-setup) at (in-range (s .setup) (ok .in-range) .history))
 
-    numbered-there : (number : ℕ) → number < 65536 → Steps h ps number (numbered s number)
+    numbered-there : (number : ℕ) → number < 65536 → Obeys h ps number (numbered s number)
     numbered-there number bits =
         let same : s .setup .history ≡ h = ap (λ (c : Setup). c .history) (track .same-setup) in
-        numbered-steps s h ps number same (rw (track .same-setup) rule) (range .0) (range .1) bits (track .stands)
+        numbered-obeys s h ps number same (rw (track .same-setup) rule) (range .0) (range .1) bits (track .stands)
 
     pub verdict-there : (number : ℕ) (r : Heard) → number < 65536 → Hears s (Numbered number) r
         → r .verdict ≡ cond (passes h ps number) Pass Discard
@@ -81,7 +82,7 @@ module _ (start : State) (rule : isVector (start .setup) ≡ true) where
     pub numbered-tracks : (number : ℕ) → number < 65536 → Tracks start (after h ps number) tags (packetOf s (Numbered number) .state)
     unfolding heard settled counted
     numbered-tracks number bits =
-        let st : Steps h ps number (numbered s number) = numbered-there number bits in
+        let st : Obeys h ps number (numbered s number) = numbered-there number bits in
         let more : ℕ = cond (passes h ps number) 1 0 in
         let sum : length ps + more + tags ≡ length ps + tags + more = omega arith in
         rw (packet-answers s (track .still-sound) (Numbered number))

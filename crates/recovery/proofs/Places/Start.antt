@@ -6,7 +6,7 @@ use native.Mathlib.Decide.{ℕ-discrete}
 use native.Mathlib.Omega.{arith}
 use lib.Dec.{eqb}
 use borrow.Author.Tests.{eqb-true}
-use Rattle.recovery.specs.declared.Setup.{Setup}
+use Rattle.setup.specs.declared.Setup.{Setup}
 use Rattle.recovery.specs.declared.Counters.{Counters}
 use Rattle.recovery.specs.declared.State.{State}
 use Rattle.recovery.specs.declared.Begun.the-variants.{Ready, Refused}
@@ -16,10 +16,10 @@ use ticked.{Tick, Reset}
 use Rattle.recovery.specs.declared.Changed.{Changed}
 use Rattle.recovery.specs.declared.Change.the-variants as change
 use change.{Done}
-use Rattle.recovery.specs.Setup.{checked}
-use Rattle.recovery.specs.State.{noCounts, sound, cleared, freshState, resetState, begunFrom, resetOf}
-use Rattle.recovery.specs.Timer.{tickOf}
-use Rattle.recovery.specs.Promises.{Begins, Resets, Times}
+use Rattle.setup.specs.Range.{checked}
+use Rattle.recovery.specs.Resets.{noCounts, cleared, freshState, resetState, begunFrom, resetOf, Begins, Resets}
+use Rattle.recovery.specs.Soundness.{sound}
+use Rattle.recovery.specs.Timer.{tickOf, Times}
 use Rattle.recovery.specs.Spans.{Starts, fresh, reset, timeout}
 use Rattle.recovery.proofs.SoundLaws.{sound-says}
 use Rattle.recovery.proofs.SpanCalls.{quiet-tick, timeout-tick}

@@ -1,6 +1,7 @@
 -- `State::anew` meets its contract. Assumes nothing.
 use mathlib.Core.Path.{_∙_}
-use Rattle.recovery.specs.State.{plus, resetCounted, resetState}
+use Rattle.recovery.specs.Counting.{plus}
+use Rattle.recovery.specs.Resets.{resetCounted, resetState}
 use borrow.Author.Needs.{needs}
 use Rattle.recovery.proofs.State.anew.Statement.{statement}
 use Rattle.recovery.proofs.State.anew.Tie as tie
@@ -10,4 +11,4 @@ unfolding plus resetCounted resetState
 returns c = c .clear .ensures ∙ rw (c .before .wrapping-add-u64 .ensures)
 
 pub anew-spec : {M : Type 1} → statement M
-anew-spec = tie.close (tie.spec (λ c κs. search needs) (λ c κs. search needs) returns)
+anew-spec = tie.close (search (tie.spec, returns, needs))

@@ -1,17 +1,19 @@
--- `State::fresh` meets its contract. Assumes nothing.
+-- `State::fresh` meets its promise. Assumes nothing.
 use borrow.Author.Tests.{eq-eqb, ne-eqb}
-use Rattle.recovery.specs.State.{freshState, begunFrom}
+use Rattle.recovery.specs.Resets.{freshState, begunFrom}
 use borrow.Author.Needs.{needs}
 use Rattle.recovery.proofs.State.fresh.Statement.{statement}
 use Rattle.recovery.proofs.State.fresh.Tie as tie
 
+-- the setup is refused
 returns : tie.Need-returns
 unfolding begunFrom
 returns c = rw (← c .before .check .ensures, ne-eqb _ _ (c .if1 .taken))
 
+-- it is in range
 returns-2 : tie.Need-returns-2
 unfolding begunFrom freshState
 returns-2 c = rw (← c .before .before .check .ensures, eq-eqb _ _ (c .before .if1 .left), c .clear .ensures)
 
 pub fresh-spec : {M : Type 1} → statement M
-fresh-spec = tie.close (tie.spec (λ c κs. search needs) returns (λ c κs. search needs) returns-2)
+fresh-spec = tie.close (search (tie.spec, returns, returns-2, needs))

@@ -1,45 +1,44 @@
--- `State::tick` meets its contract. Assumes nothing.
+-- `State::tick` meets its promise. Assumes nothing.
 use mathlib.Core.Path.{_≡_}
 use mathlib.Core.Bool.{true}
 use borrow.Author.Tests.{eq-eqb, ne-eqb}
-use Rattle.recovery.specs.State.{sound, resetState}
+use Rattle.octets.proofs.Bools.{said-yes, said-no}
+use Rattle.recovery.specs.Soundness.{sound}
+use Rattle.recovery.specs.Resets.{resetState}
 use Rattle.recovery.specs.Timer.{timed, tickOf}
-use Rattle.recovery.proofs.BoolLaws.{said-yes, said-no}
 use borrow.Author.Needs.{needs}
 use Rattle.recovery.proofs.State.tick.Statement.{statement}
 use Rattle.recovery.proofs.State.tick.Tie as tie
 
+sub-fewer : tie.Need-sub-fewer
+sub-fewer c = search needs
+
 sound-here : (c : tie.Else1) → sound (c .before .before .args .self) ≡ true
 sound-here c = said-yes (c .before .is-sound .ensures) (c .if1 .left)
 
+-- the state is not sound
 returns : tie.Need-returns
 unfolding tickOf
 returns c = rw (said-no (c .before .is-sound .ensures) (c .if1 .taken))
 
+-- no ticks are left
 returns-2 : tie.Need-returns-2
 unfolding tickOf timed
-returns-2 c = rw (sound-here (c .before .before .before), eq-eqb _ _ (c .if2 .taken))
+returns-2 c = rw (sound-here (c .before .before .before), eq-eqb _ 0 (c .if2 .taken))
 
+-- the last tick: a reset
 returns-3 : tie.Need-returns-3
 unfolding tickOf timed resetState
 returns-3 c =
-    let at = c .before .before .before in
-    rw (sound-here (at .before .before .before), ne-eqb _ _ (at .if2 .left), eq-eqb _ _ (c .before .if3 .taken), c .anew .ensures)
+    let some = c .before .before .before in
+    rw (sound-here (some .before .before .before), ne-eqb _ 0 (some .if2 .left), eq-eqb _ 1 (c .before .if3 .taken), c .anew .ensures)
 
+-- one tick less
 returns-4 : tie.Need-returns-4
 unfolding tickOf timed
 returns-4 c =
-    let at = c .before .before .before in
-    rw (sound-here (at .before .before .before), ne-eqb _ _ (at .if2 .left), ne-eqb _ _ (c .before .if3 .left))
+    let some = c .before .before .before in
+    rw (sound-here (some .before .before .before), ne-eqb _ 0 (some .if2 .left), ne-eqb _ 1 (c .before .if3 .left))
 
 pub tick-spec : {M : Type 1} → statement M
-tick-spec =
-    tie.close
-    (tie.spec
-    (λ c κs. search needs)
-    returns
-    (λ c κs. search needs)
-    (λ c. search needs)
-    returns-2
-    returns-3
-    returns-4)
+tick-spec = tie.close (search (tie.spec, sub-fewer, returns, returns-2, returns-3, returns-4, needs))

@@ -23,5 +23,8 @@ halves n k =
 returns : tie.Need-returns
 returns c = omega (arith, halves (c .before .args .n) (c .before .args .k), c .wrapping-add-u64 .ensures)
 
+mul-wrapping-add-u64 : tie.Need-mul-wrapping-add-u64
+mul-wrapping-add-u64 c = search needs
+
 pub times-spec : {M : Type 1} → statement M
-times-spec = tie.close (tie.spec mul-high mul-low (λ c. search needs) (λ c κs. search needs) returns)
+times-spec = tie.close (search (tie.spec, mul-high, mul-low, mul-wrapping-add-u64, returns, needs))

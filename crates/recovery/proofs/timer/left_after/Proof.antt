@@ -4,13 +4,15 @@ use borrow.Author.Needs.{needs}
 use Rattle.recovery.proofs.timer.left_after.Statement.{statement}
 use Rattle.recovery.proofs.timer.left_after.Tie as tie
 
+-- the packet passes
 returns : tie.Need-returns
 unfolding restarted
 returns c = rw (c .before .if1 .taken) (c .full .ensures)
 
+-- it is discarded
 returns-2 : tie.Need-returns-2
 unfolding restarted
 returns-2 c = rw (c .if1 .left)
 
 pub left-after-spec : {M : Type 1} → statement M
-left-after-spec = tie.close (tie.spec (λ c κs. search needs) returns returns-2)
+left-after-spec = tie.close (search (tie.spec, returns, returns-2, needs))

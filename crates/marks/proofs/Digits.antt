@@ -1,0 +1,98 @@
+-- A number's binary digits, one by one: what adding a power, doubling and cutting off do to each. Assumes nothing.
+use mathlib.Core.Path.{_≡_, refl, sym, ap, subst, _∙_}
+use mathlib.Core.Bool.{Bool, true, false, cond}
+use Prim.Native.Nat.{ℕ, zero, suc, _+_, _-_, _*_, _/_, _%_, _^_, _≤_, _<_}
+use native.Mathlib.Nat.{pow-suc, pow-succ', div-one, div-div-eq-div-mul, mul-div-cancel, mod-lt, div-add-mod', add-mul, one-mul, div-eq-of-lt, div-lt-iff-lt-mul}
+use native.Mathlib.Omega.{arith}
+use lib.Arith.{mod-mul, digits-lt}
+use lib.Pow.{pow-pos, pow-add, shr-lt, shl-exact}
+use borrow.Author.Tests.{ltb-true, ltb-false, ne-eqb}
+use lib.Dec.{eqb, ltb, eqb·zero-suc, eqb·suc-zero, eqb·suc-suc, lit<}
+
+-- digit k
+unfoldable pub digit : ℕ → ℕ → ℕ
+digit k n = n / 2 ^ k % 2
+
+pub digit-below-2 : (k n : ℕ) → digit k n < 2
+unfolding digit
+digit-below-2 k n = omega arith
+
+pub digit-zero : (n : ℕ) → digit 0 n ≡ n % 2
+unfolding digit
+digit-zero n = ap (λ (x : ℕ). x % 2) (div-one n)
+
+pub digit-suc : (k n : ℕ) → digit (suc k) n ≡ digit k (n / 2)
+unfolding digit
+digit-suc k n = rw (pow-succ' 2 k, ← div-div-eq-div-mul n 2 (2 ^ k))
+
+-- one digit more is twice the room
+pub doubled : (h : ℕ) → 1 ≤ h → 2 ^ h ≡ 2 ^ (h - 1) * 2
+doubled zero p = omega arith
+doubled (suc l) p = let e : suc l - 1 ≡ l = omega arith in rw e (pow-suc 2 l)
+
+-- one digit in a word of 64
+pub one-shifted : (k : ℕ) → k < 64 → 1 * 2 ^ k % 2 ^ 64 ≡ 2 ^ k
+one-shifted k p = shl-exact 1 k 64 (omega arith) (omega arith) ∙ one-mul (2 ^ k)
+
+-- the h + 1 low digits: the lowest, and h of the rest
+low-digits : (h n : ℕ) → n % 2 ^ suc h ≡ n / 2 % 2 ^ h * 2 + n % 2
+low-digits h n = rw (pow-suc 2 h, mod-mul n (pow-pos h) (lit< tt))
+
+-- the digits below h do not see what stands at h and above
+digit-low : (h k n : ℕ) → k < h → digit k (n % 2 ^ h) ≡ digit k n
+digit-low zero k n kh = absurd (omega arith)
+digit-low (suc h) zero n kh = rw (digit-zero n, digit-zero, low-digits) (omega arith)
+digit-low (suc h) (suc k) n kh =
+    let half : n % 2 ^ suc h / 2 ≡ n / 2 % 2 ^ h = rw low-digits (omega arith) in
+    rw (digit-suc k n, digit-suc, half) (digit-low h k (n / 2) (omega arith))
+
+half-set : (k n : ℕ) → (n + 2 ^ suc k) / 2 ≡ n / 2 + 2 ^ k
+half-set k n = omega arith
+
+-- a power added where its digit is 0: that digit is 1, and every other stays
+pub digit-set : (j k n : ℕ) → digit k n ≡ 0 → digit j (n + 2 ^ k) ≡ cond (eqb j k) 1 (digit j n)
+digit-set zero zero n clear = omega (arith, digit-zero (n + 1), digit-zero n)
+digit-set zero (suc k) n clear = rw (eqb·zero-suc k, digit-zero (n + 2 ^ suc k), digit-zero n) (omega arith)
+digit-set (suc j) zero n clear =
+    rw (eqb·suc-zero j, digit-suc j (n + 1), digit-suc j n) (ap (digit j) (omega (arith, digit-zero n)))
+digit-set (suc j) (suc k) n clear =
+    rw (eqb·suc-suc j k, digit-suc j (n + 2 ^ suc k), digit-suc j n, half-set k n) (digit-set j k (n / 2) (rw digit-suc at clear))
+
+-- and a number of h digits stays one
+pub set-below : (h k n : ℕ) → k < h → n < 2 ^ h → digit k n ≡ 0 → n + 2 ^ k < 2 ^ h
+unfolding digit
+set-below h k n p q e =
+    let j = h - suc k in
+    let hk : h ≡ suc j + k = omega arith in
+    let room : 2 ^ h ≡ 2 ^ suc j * 2 ^ k = ap (λ (n : ℕ). 2 ^ n) hk ∙ pow-add 2 (suc j) k in
+    let below : n / 2 ^ k < 2 ^ suc j = shr-lt (suc j) k (subst (λ (i : ℕ). n < 2 ^ i) hk q) in
+    let more : n / 2 ^ k + 1 < 2 ^ suc j = omega (arith, doubled (suc j) (omega arith)) in
+    let whole : n ≡ n / 2 ^ k * 2 ^ k + n % 2 ^ k = sym (div-add-mod' n (2 ^ k)) in
+    let last : (n / 2 ^ k + 1) * 2 ^ k + n % 2 ^ k < 2 ^ suc j * 2 ^ k = digits-lt more (mod-lt n (pow-pos k)) in
+    omega (arith, add-mul (n / 2 ^ k) 1 (2 ^ k), one-mul (2 ^ k))
+
+-- doubled and cut off at h digits, said without the digit that leaves
+pub doubled-cut : (h n : ℕ) → 1 ≤ h → n * 2 % 2 ^ h ≡ n % 2 ^ (h - 1) * 2
+doubled-cut h n p =
+    let e : n * 2 / 2 ≡ n = omega arith in
+    let z : n * 2 % 2 ≡ 0 = omega arith in
+    rw (doubled h p, mod-mul (n * 2) {m = 2 ^ (h - 1)} {c = 2} (pow-pos (h - 1)) (omega arith), e, z) (omega arith)
+
+-- digit 0 is then 0, and each other is the one before it
+pub digit-moved-zero : (h n : ℕ) → 1 ≤ h → digit 0 (n * 2 % 2 ^ h) ≡ 0
+digit-moved-zero h n hs = rw (digit-zero, doubled-cut h n hs) (omega arith)
+
+pub digit-moved-suc : (h k n : ℕ) → suc k < h → digit (suc k) (n * 2 % 2 ^ h) ≡ digit k n
+digit-moved-suc h k n kh =
+    rw (digit-suc, doubled-cut h n (omega arith), mul-div-cancel (n % 2 ^ (h - 1)) (lit< tt)) (digit-low (h - 1) k n (omega arith))
+
+-- a number has nothing at h and above exactly if it is below the power
+pub none-above : (h n : ℕ) → eqb (n / 2 ^ h) 0 ≡ ltb n (2 ^ h)
+none-above h n = by (ltb n (2 ^ h)) refl
+  where
+    one : n / 2 ^ h ≡ 0 → n / 2 ^ h < 1
+    one e = omega arith
+
+    by : (t : Bool) → ltb n (2 ^ h) ≡ t → eqb (n / 2 ^ h) 0 ≡ t
+    by true t = rw (div-eq-of-lt (ltb-true n (2 ^ h) t))
+    by false t = ne-eqb _ _ (λ (e : n / 2 ^ h ≡ 0). omega (arith, ltb-false n (2 ^ h) t, div-lt-iff-lt-mul {k = 2 ^ h} (pow-pos h) .0 (one e)))

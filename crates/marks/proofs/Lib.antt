@@ -1,0 +1,5 @@
+pub mod Digits
+pub mod Reach
+pub mod Moves
+pub mod Meaning
+pub mod Unique

@@ -1,0 +1,70 @@
+-- The definitions of Window mean what `specs/Meaning.antt` says, mark by mark. Assumes nothing.
+use Prim.Native.Nat.{ℕ, zero, suc, _+_, _-_, _≤_, _<_}
+use native.Mathlib.Nat.{sub-zero, add-zero}
+use native.Mathlib.Omega.{arith}
+use mathlib.Core.Path.{_≡_, refl, _∙_}
+use mathlib.Core.Bool.{Bool, true, false, cond}
+use lib.Dec.{ltb}
+use borrow.Author.Tests.{lt-ltb, le-ltb, ltb-true, ltb-false}
+use Rattle.marks.specs.declared.Marks.{Marks}
+use Rattle.marks.specs.Window.{most, mark, clearFrom, moved, slid, lostIn}
+use Rattle.marks.specs.Meaning.{clearAmong, SlidesMean, SetsMean}
+use Rattle.marks.proofs.Moves.{mark-moved-zero, mark-moved-suc, clear-moved, lost-by, mark-set, clear-set}
+
+pub sets-mean : SetsMean
+sets-mean k marks there = record { mark-after = mark-set k marks there; clear-above = clear-set k marks there }
+
+-- one mark more at the end of a row
+among-last : (k n : ℕ) (marks : Marks) → clearAmong k (suc n) marks ≡ clearAmong k n marks + (1 - mark (k + n) marks)
+unfolding clearAmong
+among-last k zero marks = rw (add-zero k) (omega arith)
+among-last k (suc n) marks =
+    let next : suc k + n ≡ k + suc n = omega arith in
+    omega (arith, rw next at (among-last (suc k) n marks))
+
+module _ (h : ℕ) (low : 1 ≤ h) (high : h ≤ most) where
+  -- each mark comes to where a single move leaves it, and on from there
+  mark-slid : (d k : ℕ) (marks : Marks) → k < h → mark k (slid h d marks) ≡ cond (ltb k d) 0 (mark (k - d) marks)
+  unfolding slid
+  mark-slid zero k marks kh = rw (le-ltb k 0 (omega arith), sub-zero)
+  mark-slid (suc d) k marks kh = mark-slid d k (moved h marks) kh ∙ by (ltb k d) refl (ltb k (suc d)) refl
+    where
+      by : (a : Bool) → ltb k d ≡ a → (b : Bool) → ltb k (suc d) ≡ b
+          → cond a 0 (mark (k - d) (moved h marks)) ≡ cond b 0 (mark (k - suc d) marks)
+      by true a true b = refl
+      by true a false b = absurd (omega (arith, ltb-true k d a, ltb-false k (suc d) b))
+      by false a true b =
+          let none : k - d ≡ 0 = omega (arith, ltb-false k d a, ltb-true k (suc d) b) in
+          rw none (mark-moved-zero h low high marks)
+      by false a false b =
+          let some : k - d ≡ suc (k - suc d) = omega (arith, ltb-false k (suc d) b) in
+          rw some (mark-moved-suc h low high marks (k - suc d) (omega (arith, ltb-false k (suc d) b)))
+
+  clear-slid : (d : ℕ) (marks : Marks) → clearFrom h marks ≡ true → clearFrom h (slid h d marks) ≡ true
+  unfolding slid
+  clear-slid zero marks fits = fits
+  clear-slid (suc d) marks fits = clear-slid d (moved h marks) (clear-moved h low high marks)
+
+  -- a row of marks, one place on
+  among-moved : (k n : ℕ) (marks : Marks) → suc k + n ≤ h → clearAmong (suc k) n (moved h marks) ≡ clearAmong k n marks
+  unfolding clearAmong
+  among-moved k zero marks p = refl
+  among-moved k (suc n) marks p =
+      rw (mark-moved-suc h low high marks k (omega arith), among-moved (suc k) n marks (omega arith))
+
+  lost-slid : (d : ℕ) (marks : Marks) → d ≤ h → lostIn h d marks ≡ clearAmong (h - d) d marks
+  unfolding lostIn clearAmong
+  lost-slid zero marks p = refl
+  lost-slid (suc d) marks p =
+      let from : h - d ≡ suc (h - suc d) = omega arith in
+      let last : h - suc d + d ≡ h - 1 = omega arith in
+      rw (lost-by h low high marks, lost-slid d (moved h marks) (omega arith), from, among-moved (h - suc d) d marks (omega arith))
+      (omega (arith, rw last at (among-last (h - suc d) d marks)))
+
+pub slides-mean : SlidesMean
+slides-mean h d marks low high p =
+    record {
+      mark-after = λ k kh. mark-slid h low high d k marks kh;
+      clear-above = clear-slid h low high d marks;
+      left-clear = lost-slid h low high d marks p;
+    }

@@ -1,0 +1,87 @@
+-- Mark by mark, what one move does, and what setting one mark does; and how the definitions of d moves unfold. For every history length
+-- that there is. Assumes nothing.
+use Prim.Native.Nat.{ℕ, zero, suc, _+_, _-_, _*_, _%_, _^_, _≤_, _<_}
+use native.Mathlib.Nat.{mod-lt, zero-div}
+use native.Mathlib.Omega.{arith}
+use mathlib.Core.Path.{_≡_, refl, ap}
+use mathlib.Core.Bool.{Bool, true, false, cond, _&&_}
+use lib.Dec.{eqb, ltb}
+use lib.Pow.{pow-pos}
+use borrow.Author.Tests.{lt-ltb, ltb-true, eq-eqb, ne-eqb, eqb-true, eqb-false}
+use Rattle.marks.specs.declared.Marks.{Marks}
+use Rattle.marks.specs.Window.{most, number, mark, none, clearFrom, set, moved, lostBy, slid, lostIn}
+use Rattle.marks.proofs.Digits.{digit, digit-below-2, digit-set, set-below, digit-moved-zero, digit-moved-suc}
+use Rattle.marks.proofs.Reach.{reach-is}
+
+-- a mark is set or clear
+pub mark-below-2 : (k : ℕ) (marks : Marks) → mark k marks < 2
+unfolding mark digit
+mark-below-2 k marks = digit-below-2 k (number marks)
+
+pub not-set : (k : ℕ) (marks : Marks) → eqb (mark k marks) 1 ≡ false → mark k marks ≡ 0
+not-set k marks e = omega (arith, eqb-false (mark k marks) 1 e, mark-below-2 k marks)
+
+-- no mark
+pub none-clear : (k : ℕ) → mark k none ≡ 0
+unfolding mark none
+none-clear k = ap (λ (n : ℕ). n % 2) (zero-div (2 ^ k))
+
+pub none-from : (h : ℕ) → clearFrom h none ≡ true
+unfolding clearFrom none
+none-from h = lt-ltb 0 (2 ^ h) (pow-pos h)
+
+-- setting a mark
+module _ (k : ℕ) (marks : Marks) (there : k < most) where
+  pub mark-set : (j : ℕ) → mark j (set k marks) ≡ cond (eqb j k) 1 (mark j marks)
+  unfolding set mark digit
+  mark-set j = by (eqb (mark k marks) 0) refl
+    where
+      same : mark k marks ≡ 1 → (t : Bool) → eqb j k ≡ t → mark j marks ≡ cond t 1 (mark j marks)
+      same e true t = rw (eqb-true j k t) e
+      same e false t = refl
+
+      by : (clear : Bool) → eqb (mark k marks) 0 ≡ clear → mark j (set k marks) ≡ cond (eqb j k) 1 (mark j marks)
+      by true e = rw (lt-ltb k most there, e) (digit-set j k (number marks) (eqb-true _ _ e))
+      by false e =
+          let one : mark k marks ≡ 1 = omega (arith, eqb-false (mark k marks) 0 e, mark-below-2 k marks) in
+          rw (lt-ltb k most there, e) (same one (eqb j k) refl)
+
+  pub clear-set : (h : ℕ) → k < h → clearFrom h marks ≡ true → clearFrom h (set k marks) ≡ true
+  unfolding set clearFrom mark digit
+  clear-set h below fits = by (eqb (mark k marks) 0) refl
+    where
+      by : (clear : Bool) → eqb (mark k marks) 0 ≡ clear → clearFrom h (set k marks) ≡ true
+      by true e =
+          rw (lt-ltb k most there, e)
+          (lt-ltb _ _ (set-below h k (number marks) below (ltb-true (number marks) (2 ^ h) fits) (eqb-true _ _ e)))
+      by false e = rw (lt-ltb k most there, e) fits
+
+-- one move in a history that there can be
+module _ (h : ℕ) (low : 1 ≤ h) (high : h ≤ most) (marks : Marks) where
+  pub mark-moved-zero : mark 0 (moved h marks) ≡ 0
+  unfolding mark moved digit
+  mark-moved-zero = rw (reach-is h low high) (digit-moved-zero h (number marks) low)
+
+  pub mark-moved-suc : (k : ℕ) → suc k < h → mark (suc k) (moved h marks) ≡ mark k marks
+  unfolding mark moved digit
+  mark-moved-suc k kh = rw (reach-is h low high) (digit-moved-suc h k (number marks) kh)
+
+  pub clear-moved : clearFrom h (moved h marks) ≡ true
+  unfolding clearFrom moved
+  clear-moved = rw (reach-is h low high) (lt-ltb _ _ (mod-lt (number marks * 2) (pow-pos h)))
+
+  -- the mark that leaves is the last
+  pub lost-by : lostBy h marks ≡ 1 - mark (h - 1) marks
+  unfolding lostBy
+  lost-by = rw (reach-is h low high)
+
+-- d moves are one, and then those that are left
+pub slid-step : (h d : ℕ) (marks : Marks) → 1 ≤ d → slid h d marks ≡ slid h (d - 1) (moved h marks)
+unfolding slid
+slid-step h zero marks p = absurd (omega arith)
+slid-step h (suc d) marks p = let e : suc d - 1 ≡ d = omega arith in rw e
+
+pub lostIn-step : (h d : ℕ) (marks : Marks) → 1 ≤ d → lostIn h d marks ≡ lostBy h marks + lostIn h (d - 1) (moved h marks)
+unfolding lostIn
+lostIn-step h zero marks p = absurd (omega arith)
+lostIn-step h (suc d) marks p = let e : suc d - 1 ≡ d = omega arith in rw e

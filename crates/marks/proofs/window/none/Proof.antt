@@ -1,0 +1,12 @@
+-- `marks::none` meets its promise. Assumes nothing.
+use borrow.Author.Needs.{needs}
+use Rattle.marks.specs.Window.{none}
+use Rattle.marks.proofs.window.none.Statement.{statement}
+use Rattle.marks.proofs.window.none.Tie as tie
+
+returns : tie.Need-returns
+unfolding none
+returns c = search needs
+
+pub none-spec : {M : Type 1} → statement M
+none-spec = tie.close (tie.spec returns)

@@ -1,0 +1,80 @@
+-- The marks of the vector rule (document 01, "Numbering and recovery"). All marks together are one number, whose binary digit k is mark k.
+-- How they are kept is said by `most`, `number` and `marksOf` alone. Assumes nothing.
+use Prim.Native.Nat.{ℕ, zero, suc, _+_, _-_, _*_, _/_, _%_, _^_, min, max}
+use mathlib.Core.Path.{_≡_}
+use mathlib.Core.Bool.{Bool, cond, _&&_}
+use lib.Dec.{ltb, eqb}
+use Rattle.marks.specs.declared.Marks.{Marks}
+use Rattle.marks.specs.declared.Slid.{Slid}
+
+-- how many marks there are: the longest "history length H 2 to 64"
+abbrev pub most : ℕ
+most = 64
+
+-- all marks as one number, and the marks of a number
+abbrev pub number : Marks → ℕ
+number marks = marks .0
+
+abbrev pub marksOf : ℕ → Marks
+marksOf n = record { 0 = n }
+
+-- "mark 0 is the newest": mark k is 1 where it is set, 0 where it is clear
+unfoldable pub mark : ℕ → Marks → ℕ
+mark k marks = number marks / 2 ^ k % 2
+
+-- "marks clear"
+unfoldable pub none : Marks
+none = marksOf 0
+
+-- "marks at H and above clear"; from 0 on, "no mark"
+unfoldable pub clearFrom : ℕ → Marks → Bool
+clearFrom h marks = ltb (number marks) (2 ^ h)
+
+-- "else set it": the marks with mark k set; of a mark that there is not they stay
+unfoldable pub set : ℕ → Marks → Marks
+unfolding mark
+set k marks = cond (ltb k most && eqb (mark k marks) 0) (marksOf (number marks + 2 ^ k)) marks
+
+-- a history length that there can be: itself, or the nearest one. Every H that a setup may have is its own
+unfoldable pub reach : ℕ → ℕ
+reach h = max 1 (min h most)
+
+-- "the marks move d places, the last mark leaving at each single move": one move, after which mark 0 is clear
+unfoldable pub moved : ℕ → Marks → Marks
+moved h marks = marksOf (number marks * 2 % 2 ^ reach h)
+
+-- "lost +1 if it was clear": lost by one move, 1 where the mark that leaves was clear
+unfoldable pub lostBy : ℕ → Marks → ℕ
+unfolding mark
+lostBy h marks = 1 - mark (reach h - 1) marks
+
+-- the marks moved d places, one at a time
+unfoldable pub slid : ℕ → ℕ → Marks → Marks
+slid h zero marks = marks
+slid h (suc d) marks = slid h d (moved h marks)
+
+-- lost by those d moves together
+unfoldable pub lostIn : ℕ → ℕ → Marks → ℕ
+lostIn h zero marks = 0
+lostIn h (suc d) marks = lostBy h marks + lostIn h d (moved h marks)
+
+-- the promises: of `none`
+abbrev pub Nones : Marks → Type 0
+Nones r = r ≡ none
+
+-- of `clear_from`
+abbrev pub ClearsFrom : Marks → ℕ → Bool → Type 0
+ClearsFrom marks h r = r ≡ clearFrom h marks
+
+-- of `is_set`
+abbrev pub IsSet : Marks → ℕ → Bool → Type 0
+IsSet marks k r = r ≡ eqb (mark k marks) 1
+
+-- of `set`
+abbrev pub Sets : Marks → ℕ → Marks → Type 0
+Sets marks k r = r ≡ set k marks
+
+-- of `slide`
+pub record Slides (marks : Marks) (h d : ℕ) (r : Slid) : Type 0 where
+  pub moves : r .marks ≡ slid h d marks
+  pub loses : r .lost ≡ lostIn h d marks

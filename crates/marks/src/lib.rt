@@ -1,0 +1,20 @@
+// The marks of the vector rule's window (document 01, "Numbering and recovery"): "H marks (mark 0 is the newest)".
+//
+// Above this room marks are known by these calls and by `mark` of specs/Window alone, so that how they are kept can change. Any marks at
+// all may be handed in, with any mark asked for and any history length: each call has an answer.
+mod window;
+
+pub use window::clear_from;
+pub use window::is_set;
+pub use window::none;
+pub use window::set;
+pub use window::slide;
+
+// Bit k is mark k. The word is public, since any state at all may be handed in.
+pub struct Marks(pub u64);
+
+// The marks after some moves, and how many of the marks that left were clear.
+pub struct Slid {
+    pub marks: Marks,
+    pub lost: u64,
+}

@@ -1,0 +1,35 @@
+-- `packets::count` meets its contract: each counter by what the wrapping sum gives. Assumes nothing.
+use Rattle.octets.proofs.Bools.{one-if, one-unless}
+use Rattle.recovery.specs.Counting.{plus}
+use Rattle.recovery.specs.Packets.{counted}
+use borrow.Author.Needs.{needs}
+use Rattle.recovery.proofs.packets.count.Statement.{statement}
+use Rattle.recovery.proofs.packets.count.Tie as tie
+
+cast-discarded : tie.Need-cast-wrapping-add-u64
+cast-discarded c = search needs
+
+cast-passed : tie.Need-cast-wrapping-add-u64-2
+cast-passed c = search needs
+
+returns : tie.Need-returns
+unfolding plus counted
+returns c =
+    let lost = c .before in
+    let rogue = lost .before in
+    let order = rogue .before in
+    let passed = order .before in
+    let discarded = passed .before .before in
+    rw (
+      discarded .wrapping-add-u64 .ensures,
+      passed .wrapping-add-u642 .ensures,
+      order .wrapping-add-u643 .ensures,
+      rogue .wrapping-add-u644 .ensures,
+      lost .wrapping-add-u645 .ensures,
+      c .wrapping-add-u646 .ensures,
+      ← one-if,
+      ← one-unless,
+    )
+
+pub count-spec : {M : Type 1} → statement M
+count-spec = tie.close (search (tie.spec, cast-discarded, cast-passed, returns, needs))

@@ -1,0 +1,71 @@
+-- A packet by its rule, its counts, and the next state (document 01, "Numbering and recovery"). Assumes nothing.
+use Prim.Native.Nat.{ℕ}
+use mathlib.Core.Path.{_≡_}
+use mathlib.Core.Bool.{Bool, false, cond}
+use Rattle.setup.specs.Range.{isVector}
+use Rattle.rules.specs.declared.Effect.{Effect}
+use Rattle.rules.specs.NoNumber.{unnumbered}
+use Rattle.rules.specs.TakeAny.{first}
+use Rattle.rules.specs.Vector.{vector}
+use Rattle.rules.specs.Matching.{match}
+use Rattle.recovery.specs.declared.Counters.{Counters}
+use Rattle.recovery.specs.declared.State.{State}
+use Rattle.recovery.specs.declared.Packet.{Packet}
+use Rattle.recovery.specs.declared.Packet.the-variants.{Numbered, Tagless}
+use Rattle.recovery.specs.declared.Heard.{Heard}
+use Rattle.recovery.specs.declared.Verdict.the-variants.{Pass, Discard, Refused}
+use Rattle.recovery.specs.Counting.{plus}
+use Rattle.recovery.specs.Soundness.{sound}
+use Rattle.recovery.specs.Timer.{restarted}
+
+-- a packet with a number: "take-any", else by the rule
+unfoldable pub numbered : State → ℕ → Effect
+numbered s number =
+    cond (s .«take_any»)
+    (first (isVector (s .setup)) number)
+    (cond (isVector (s .setup))
+    (vector (s .setup .history) (s .newest) (s .marks) number)
+    (match (s .newest) (s .marks) number))
+
+-- "Passed and discarded add 1 to their counters", a rogue to both its own and discarded; "No number: tagless +1"
+unfoldable pub counted : Counters → ℕ → Effect → Counters
+counted k tagless effect =
+    record {
+      passed = plus (k .passed) (cond (effect .passes) 1 0);
+      discarded = plus (k .discarded) (cond (effect .passes) 0 1);
+      order = plus (k .order) (effect .order);
+      rogue = plus (k .rogue) (effect .rogue);
+      lost = plus (k .lost) (effect .lost);
+      tagless = plus (k .tagless) tagless;
+      resets = k .resets;
+      «latent_resets» = k .«latent_resets»;
+    }
+
+-- the verdict and the whole next state, of the state, its next take-any, how many packets had no number, and what the packet does
+unfoldable pub settled : State → Bool → ℕ → Effect → Heard
+settled s takeAny tagless effect =
+    record {
+      verdict = cond (effect .passes) Pass Discard;
+      state = record {
+        setup = s .setup;
+        newest = effect .newest;
+        marks = effect .marks;
+        «take_any» = takeAny;
+        left = restarted (effect .passes) (s .setup) (s .left);
+        counters = counted (s .counters) tagless effect;
+        base = s .base;
+      };
+    }
+
+-- a packet at a sound state; one with a number leaves take-any off
+unfoldable pub heard : State → Packet → Heard
+heard s (Numbered number) = settled s false 0 (numbered s number)
+heard s Tagless = settled s (s .«take_any») 1 (unnumbered (s .setup .taken) (s .newest) (s .marks))
+
+-- the call `packet`: a state that is not sound answers 14 and comes back as it was
+unfoldable pub packetOf : State → Packet → Heard
+packetOf s packet = cond (sound s) (heard s packet) (record { verdict = Refused 14; state = s })
+
+-- the promise of `State::packet`
+abbrev pub Hears : State → Packet → Heard → Type 0
+Hears s packet r = r ≡ packetOf s packet

@@ -1,0 +1,84 @@
+-- A fresh state, and a reset (document 01, "Numbering and recovery"). Assumes nothing.
+use Prim.Native.Nat.{ℕ}
+use mathlib.Core.Path.{_≡_}
+use mathlib.Core.Bool.{true, cond}
+use lib.Dec.{eqb}
+use Rattle.setup.specs.declared.Setup.{Setup}
+use Rattle.setup.specs.Range.{checked}
+use Rattle.marks.specs.Window.{none}
+use Rattle.recovery.specs.declared.Counters.{Counters}
+use Rattle.recovery.specs.declared.State.{State}
+use Rattle.recovery.specs.declared.Begun.{Begun}
+use Rattle.recovery.specs.declared.Begun.the-variants as begun
+use Rattle.recovery.specs.declared.Changed.{Changed}
+use Rattle.recovery.specs.declared.Change.the-variants as change
+use Rattle.recovery.specs.Counting.{plus}
+use Rattle.recovery.specs.Soundness.{sound}
+
+-- "newest 65,535, marks clear, take-any, ticks 0"; the counters and the base are given
+abbrev pub cleared : Setup → Counters → ℕ → State
+cleared setup counters base =
+    record {
+      setup = setup;
+      newest = 65535;
+      marks = none;
+      «take_any» = true;
+      left = record { 0 = 0 };
+      counters = counters;
+      base = base;
+    }
+
+-- "counters 0"
+abbrev pub noCounts : Counters
+noCounts =
+    record {
+      passed = 0;
+      discarded = 0;
+      order = 0;
+      rogue = 0;
+      lost = 0;
+      tagless = 0;
+      resets = 0;
+      «latent_resets» = 0;
+    }
+
+-- "Fresh: .. base 0, counters 0": "a fresh state counts no reset"
+unfoldable pub freshState : Setup → State
+freshState setup = cleared setup noCounts 0
+
+-- "A setup is checked .. wherever it is handed in by itself": a fresh state from a setup
+unfoldable pub begunFrom : Setup → Begun
+begunFrom setup = cond (eqb (checked setup) 0) (begun.Ready (freshState setup)) (begun.Refused (checked setup))
+
+-- "adds 1 to resets"
+unfoldable pub resetCounted : Counters → Counters
+resetCounted k =
+    record {
+      passed = k .passed;
+      discarded = k .discarded;
+      order = k .order;
+      rogue = k .rogue;
+      lost = k .lost;
+      tagless = k .tagless;
+      resets = plus (k .resets) 1;
+      «latent_resets» = k .«latent_resets»;
+    }
+
+-- "A reset gives the same but keeps counters, base and setup, and adds 1 to resets"
+unfoldable pub resetState : State → State
+resetState s = cleared (s .setup) (resetCounted (s .counters)) (s .base)
+
+-- the call `reset`: a state that is not sound answers 14 and comes back as it was
+unfoldable pub resetOf : State → Changed
+resetOf s =
+    cond (sound s)
+    (record { change = change.Done; state = resetState s })
+    (record { change = change.Refused 14; state = s })
+
+-- the promises: of `State::fresh`
+abbrev pub Begins : Setup → Begun → Type 0
+Begins setup r = r ≡ begunFrom setup
+
+-- of `State::reset`
+abbrev pub Resets : State → Changed → Type 0
+Resets s r = r ≡ resetOf s

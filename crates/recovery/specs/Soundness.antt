@@ -1,0 +1,24 @@
+-- Which states are sound (document 01, "Numbering and recovery"). Assumes nothing.
+use Prim.Native.Nat.{ℕ}
+use mathlib.Core.Bool.{Bool, cond, not, _&&_, _||_}
+use lib.Dec.{leb, eqb}
+use Rattle.setup.specs.Range.{checked, isVector, fullOf}
+use Rattle.marks.specs.Window.{mark, clearFrom}
+use Rattle.recovery.specs.declared.State.{State}
+
+-- "take-any means newest 65,535 and no mark; otherwise ticks left are 1 or more, and mark 0 is set under vector"
+unfoldable pub awaits : State → Bool
+awaits s =
+    cond (s .«take_any»)
+    (eqb (s .newest) 65535 && clearFrom 0 (s .marks))
+    (leb 1 (s .left .0) && (not (isVector (s .setup)) || eqb (mark 0 (s .marks)) 1))
+
+-- "Sound state: setup in range; marks at H and above clear"; what take-any means; "match has no mark; ticks left never above full ticks".
+-- "All else answers 14"
+unfoldable pub sound : State → Bool
+sound s =
+    eqb (checked (s .setup)) 0
+    && clearFrom (s .setup .history) (s .marks)
+    && awaits s
+    && (isVector (s .setup) || clearFrom 0 (s .marks))
+    && leb (s .left .0) (fullOf (s .setup) .0)

@@ -1,0 +1,4 @@
+pub mod VectorLaws
+pub mod VectorKeeps
+pub mod Places
+pub mod Unique

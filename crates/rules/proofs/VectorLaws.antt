@@ -1,0 +1,58 @@
+-- The vector rule by cases: which of its lines a packet falls under, from how far apart the numbers are. Assumes nothing.
+use Prim.Native.Nat.{ℕ, _-_, _<_, _≤_}
+use mathlib.Core.Path.{_≡_, refl, ap, _∙_}
+use mathlib.Core.Bool.{Bool, true, false, cond}
+use lib.Dec.{eqb, ltb}
+use borrow.Author.Tests.{lt-ltb, le-ltb, le-leb, lt-leb, ne-eqb, eqb-true, ltb-false}
+use native.Mathlib.Omega.{arith}
+use Rattle.marks.specs.declared.Marks.{Marks}
+use Rattle.rules.specs.Difference.{ahead, behind, apart, signed, difference, outOfOrder}
+use Rattle.rules.specs.Effects.{discarded}
+use Rattle.rules.specs.Vector.{late, onward, byDifference, vector}
+
+-- d from number - newest modulo 65,536
+module _ (newest number far : ℕ) (e : apart newest number ≡ far) where
+  pub is-same : far ≡ 0 → difference newest number ≡ behind 0
+  unfolding difference signed
+  is-same z = ap signed (e ∙ z)
+
+  pub is-ahead : (far ≡ 0 → ⊥) → far < 32768 → difference newest number ≡ ahead far
+  unfolding difference signed
+  is-ahead z p = ap signed e ∙ rw (ne-eqb _ _ z, lt-ltb _ _ p)
+
+  pub is-behind : 32768 ≤ far → difference newest number ≡ behind (65536 - far)
+  unfolding difference signed
+  is-behind p =
+      let z : far ≡ 0 → ⊥ = λ q. omega arith in
+      ap signed e ∙ rw (ne-eqb _ _ z, le-ltb _ _ p)
+
+-- the rule from d
+module _ (h newest : ℕ) (marks : Marks) (number k : ℕ) where
+  pub rogue-ahead : difference newest number ≡ ahead k → h ≤ k → vector h newest marks number ≡ discarded newest marks 1
+  unfolding vector
+  rogue-ahead e p = ap (byDifference h newest marks number) e ∙ rw (le-leb h k p)
+
+  pub goes-onward : difference newest number ≡ ahead k → k < h → vector h newest marks number ≡ onward h number marks k
+  unfolding vector
+  goes-onward e p = ap (byDifference h newest marks number) e ∙ rw (lt-leb h k p)
+
+  pub rogue-behind : difference newest number ≡ behind k → h ≤ k → vector h newest marks number ≡ discarded newest marks 1
+  unfolding vector
+  rogue-behind e p = ap (byDifference h newest marks number) e ∙ rw (le-leb h k p)
+
+  pub comes-late : difference newest number ≡ behind k → k < h → vector h newest marks number ≡ late newest marks k
+  unfolding vector
+  comes-late e p = ap (byDifference h newest marks number) e ∙ rw (lt-leb h k p)
+
+-- order is spared only at d = 1
+pub out-of-order : (newest number : ℕ) → outOfOrder (difference newest number) ≡ cond (eqb (apart newest number) 1) 0 1
+unfolding difference signed outOfOrder
+out-of-order newest number = by (apart newest number) (eqb (apart newest number) 0) (ltb (apart newest number) 32768) refl refl
+  where
+    by : (far : ℕ) (p q : Bool) → eqb far 0 ≡ p → ltb far 32768 ≡ q → outOfOrder (signed far) ≡ cond (eqb far 1) 0 1
+    by far true q e₁ e₂ = rw (eqb-true far 0 e₁)
+    by far false true e₁ e₂ = rw (e₁, e₂)
+    by far false false e₁ e₂ =
+        let above : 32768 ≤ far = ltb-false far 32768 e₂ in
+        let no : far ≡ 1 → ⊥ = λ e. omega arith in
+        rw (e₁, e₂, ne-eqb far 1 no)

@@ -1,0 +1,27 @@
+// What one packet does by its rule (document 01, "Numbering and recovery"): to the newest number, the marks and the counts. A recovery
+// state is made of that in the room above.
+//
+// Each call takes any numbers and any marks at all, and always has an answer.
+mod difference;
+mod effects;
+mod matching;
+mod no_number;
+mod take_any;
+mod vector;
+
+use marks::Marks;
+
+// The counts are what the packet adds.
+pub struct Effect {
+    pub passes: bool,
+    pub newest: u16,
+    pub marks: Marks,
+    pub order: u64,
+    pub rogue: u64,
+    pub lost: u64,
+}
+
+pub use matching::hear_match;
+pub use no_number::hear_no_number;
+pub use take_any::hear_first;
+pub use vector::hear_vector;

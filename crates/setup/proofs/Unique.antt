@@ -1,0 +1,23 @@
+-- Of each call, two answers that its promise allows are equal. Assumes nothing.
+use Prim.Native.Nat.{ℕ}
+use mathlib.Core.Path.{_≡_}
+use Rattle.octets.proofs.Unique.{one}
+use Rattle.setup.specs.declared.Milliseconds.{Milliseconds}
+use Rattle.setup.specs.declared.Ticks.{Ticks}
+use Rattle.setup.specs.declared.Setup.{Setup}
+use Rattle.setup.specs.Values.{Makes}
+use Rattle.setup.specs.Conversion.{Converts}
+use Rattle.setup.specs.Range.{ChecksSetup, GivesFull}
+
+pub makes-one : (rule taken history milliseconds rate paths difference : ℕ) {a b : Setup}
+    → Makes rule taken history milliseconds rate paths difference a → Makes rule taken history milliseconds rate paths difference b → a ≡ b
+makes-one rule taken history milliseconds rate paths difference = one
+
+pub converts-one : (timeout : Milliseconds) (rate : ℕ) {a b : Ticks} → Converts timeout rate a → Converts timeout rate b → a ≡ b
+converts-one timeout rate = one
+
+pub checks-setup-one : (setup : Setup) {a b : ℕ} → ChecksSetup setup a → ChecksSetup setup b → a ≡ b
+checks-setup-one setup = one
+
+pub gives-full-one : (setup : Setup) {a b : Ticks} → GivesFull setup a → GivesFull setup b → a ≡ b
+gives-full-one setup = one

@@ -1,0 +1,15 @@
+// Full ticks of a timeout.
+ghost use Rattle.setup.specs.Conversion.{Converts};
+use crate::Milliseconds;
+use crate::Ticks;
+
+impl Milliseconds {
+    // The only way from milliseconds to ticks. Any two factors have an answer: the product stays below 2^48.
+    pub fn ticks(self, rate: u16) -> Ticks
+        ensures { λ r. ⌜ Converts self rate r ⌝ }
+    {
+        let scaled = (self.0 as u64) * (rate as u64);
+        let full = (scaled + 999) / 1000;
+        Ticks(full)
+    }
+}

@@ -1,0 +1,26 @@
+// The setup of a recovery state (document 01, "Numbering and recovery"): its values, its check, and its timeout in ticks.
+mod conversion;
+mod range;
+mod values;
+
+// "two kinds of number that can't be mixed": `Milliseconds::ticks` is the one way from the first to the second. Their numbers are public,
+// since any setup and any state at all may be handed in.
+pub struct Milliseconds(pub u32);
+
+pub struct Ticks(pub u64);
+
+// Any values may stand in the fields; `check` says which are in range.
+pub struct Setup {
+    // 0 vector, 1 match
+    pub rule: u8,
+    // whether packets without a number are taken: 0 or 1
+    pub taken: u8,
+    // the history length H
+    pub history: u16,
+    pub timeout: Milliseconds,
+    // ticks per second
+    pub rate: u16,
+    pub paths: u8,
+    // the latent difference
+    pub difference: u32,
+}
