@@ -3,20 +3,26 @@
 use Prim.Native.Nat.{ℕ}
 use mathlib.Core.Path.{_≡_, refl}
 use mathlib.Core.List.{List, [], _∷_, map}
+use Rattle.octets.specs.Checks.{verdict}
 use Rattle.frame.specs.Layout.{tag}
-use Rattle.recovery.specs.declared.Setup.{Setup}
+use Rattle.marks.specs.Window.{mark, none, clearFrom, set, reach, moved, lostBy, slid, lostIn}
+use Rattle.setup.specs.declared.Setup.{Setup}
+use Rattle.setup.specs.Values.{setupOf}
+use Rattle.setup.specs.Conversion.{fullTicks, ticksOf}
+use Rattle.setup.specs.Range.{setupChecks, checked, isVector}
+use Rattle.rules.specs.Difference.{apart, signed, difference, outOfOrder}
+use Rattle.rules.specs.TakeAny.{firstMarks, first}
+use Rattle.rules.specs.Vector.{late, onward, byDifference, vector}
+use Rattle.rules.specs.Matching.{match}
 use Rattle.recovery.specs.declared.State.{State}
 use Rattle.recovery.specs.declared.Packet.the-variants.{Numbered}
 use Rattle.recovery.specs.declared.Verdict.{Verdict}
 use Rattle.recovery.specs.declared.Verdict.the-variants.{Pass, Discard}
-use Rattle.recovery.specs.Marks.{mark, moved, lostBy, slid, lostIn}
-use Rattle.recovery.specs.Ticks.{fullTicks, ticksOf}
-use Rattle.recovery.specs.Setup.{checked, isVector}
-use Rattle.recovery.specs.State.{plus, freshState, awaits, sound}
-use Rattle.recovery.specs.Difference.{apart, signed, difference}
-use Rattle.recovery.specs.Vector.{discarded, late, onward, byDifference, vector}
+use Rattle.recovery.specs.Counting.{plus}
+use Rattle.recovery.specs.Soundness.{awaits, sound}
+use Rattle.recovery.specs.Resets.{freshState}
 use Rattle.recovery.specs.Timer.{restarted}
-use Rattle.recovery.specs.Rules.{outOfOrder, numbered, first, match, counted, settled, heard, packetOf}
+use Rattle.recovery.specs.Packets.{numbered, counted, settled, heard, packetOf}
 
 -- what is asked: packets from a fresh state, by rule (0 vector, 1 match) and history length; ticks of milliseconds at ticks per second;
 -- the octets of an R-TAG
@@ -35,9 +41,9 @@ pub record Case : Type 0 where
   pub asked : Asked
   pub said : Answer
 
+-- 100 ms at 100 ticks per second, two paths, difference 1
 abbrev pub setup : ℕ → ℕ → Setup
-setup rule history =
-    record { rule = rule; taken = 0; history = history; timeout = record { 0 = 100 }; rate = 100; paths = 2; difference = 1 }
+setup rule history = setupOf rule 0 history 100 100 2 1
 
 abbrev pub verdicts : State → List ℕ → List Verdict
 verdicts s [] = []
@@ -88,5 +94,5 @@ abbrev pub expected : Case → Answer
 expected c = c .said
 
 pub starred : map given cases ≡ map expected cases
-unfolding cases tag mark moved lostBy slid lostIn fullTicks ticksOf checked isVector plus freshState awaits sound apart signed difference discarded late onward byDifference vector restarted outOfOrder numbered first match counted settled heard packetOf
+unfolding cases tag mark none clearFrom set reach moved lostBy slid lostIn verdict fullTicks ticksOf setupChecks checked isVector apart signed difference outOfOrder firstMarks first late onward byDifference vector match plus awaits sound freshState restarted numbered counted settled heard packetOf
 starred = refl

@@ -3,11 +3,12 @@
 use frame::Reading;
 use libc::STDOUT_FILENO;
 use recovery::Begun;
-use recovery::Milliseconds;
 use recovery::Packet;
-use recovery::Setup;
 use recovery::State;
 use recovery::Verdict;
+use setup::Milliseconds;
+use setup::Setup;
+use setup::Ticks;
 
 // The first octets of a buffer, or all of it.
 fn front(octets: &[u8], length: usize) -> &[u8] {
@@ -27,20 +28,15 @@ fn say(verdict: Verdict) {
     ;
 }
 
+// A fresh state for the cases: 100 ms at 100 ticks per second, two paths, difference 1.
+fn begin(rule: u8, history: u16) -> Begun {
+    State::fresh(Setup::of(rule, 0, history, 100, 100, 2, 1))
+}
+
 // A title, what a fresh state answers to each number, and its counts of order and rogue after the last. Rule 0 is vector, and 1 match.
 fn hear_case(title: &[u8], rule: u8, history: u16, numbers: &[u16]) {
     io::write_all(STDOUT_FILENO, title);
-    let timeout = Milliseconds(100);
-    let setup = Setup {
-        rule,
-        taken: 0,
-        history,
-        timeout,
-        rate: 100,
-        paths: 2,
-        difference: 1,
-    };
-    let Begun::Ready(fresh) = State::fresh(setup) else {
+    let Begun::Ready(fresh) = begin(rule, history) else {
         return;
     };
     let mut state = fresh;
@@ -97,9 +93,9 @@ fn insert_case(title: &[u8], length: usize) {
     io::write_all(STDOUT_FILENO, title);
     let octets = [0u8; 1523];
     let mut out = [0u8; 1523];
-    match frame::insert(front(&octets, length), 258, &mut out) {
-        frame::Written::Length(n) => answer(b"length ", n as u64),
-        frame::Written::Refused(number) => answer(b"refused ", number as u64),
+    match tag::insert(front(&octets, length), 258, &mut out) {
+        tag::Written::Length(n) => answer(b"length ", n as u64),
+        tag::Written::Refused(number) => answer(b"refused ", number as u64),
     }
 }
 
@@ -108,7 +104,7 @@ fn tag_case(title: &[u8]) {
     io::write_all(STDOUT_FILENO, title);
     let octets = [0u8; 14];
     let mut out = [0u8; 20];
-    frame::insert(&octets, 258, &mut out);
+    tag::insert(&octets, 258, &mut out);
     io::print_hex(STDOUT_FILENO, octets::word48(&out, 12), 12);
     io::write_all(STDOUT_FILENO, b"\n");
 }

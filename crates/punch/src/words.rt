@@ -1,4 +1,5 @@
-// The text word by word. A word is held as its letters in one number, the first letter highest; the last eight tell any two words here apart.
+// The text word by word. A word is held as its letters in one number, the first letter highest; the last eight tell any two words here
+// apart.
 ghost use Prim.Native.Nat.{_≤_};
 
 pub const NO_EVENT: u8 = 1;

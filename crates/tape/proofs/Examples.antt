@@ -3,19 +3,23 @@ use Prim.Native.Nat.{ℕ}
 use mathlib.Core.Path.{_≡_, refl}
 use mathlib.Core.List.{List, [], _∷_, _++_, map}
 use Prim.Native.String.{String}
-use Rattle.octets.specs.Octets.{be16, be32}
-use Rattle.recovery.specs.Marks.{mark, moved, lostBy, slid, lostIn}
-use Rattle.recovery.specs.Ticks.{fullTicks, ticksOf}
-use Rattle.recovery.specs.Setup.{checked, isVector}
-use Rattle.recovery.specs.State.{plus, freshState, begunFrom, awaits, sound}
-use Rattle.recovery.specs.Difference.{apart, signed, difference}
-use Rattle.recovery.specs.Vector.{discarded, late, onward, byDifference, vector}
+use Rattle.octets.specs.Number.{be16, be32}
+use Rattle.marks.specs.Window.{mark, none, clearFrom, set, reach, moved, lostBy, slid, lostIn}
+use Rattle.setup.specs.Conversion.{fullTicks, ticksOf}
+use Rattle.setup.specs.Range.{setupChecks, checked, isVector}
+use Rattle.recovery.specs.Counting.{plus}
+use Rattle.recovery.specs.Resets.{freshState, begunFrom}
+use Rattle.recovery.specs.Soundness.{awaits, sound}
+use Rattle.rules.specs.Difference.{apart, signed, difference}
+use Rattle.rules.specs.Vector.{late, onward, byDifference, vector}
 use Rattle.recovery.specs.Timer.{restarted}
-use Rattle.recovery.specs.Rules.{numbered, first, counted, settled, heard, packetOf}
-use Rattle.recovery.specs.Latent.{less, absolute, figure, latentError, latentTestOf}
-use Rattle.tape.specs.Lines.{octetsOf, text, counters, decimalIn}
-use Rattle.tape.specs.Events.{known, width, setupAt, runs, inTurn, eventAt, stepAt}
-use Rattle.tape.specs.Tape.{linesFrom, played, outputOf}
+use Rattle.recovery.specs.Packets.{numbered, counted, settled, heard, packetOf}
+use Rattle.rules.specs.TakeAny.{firstMarks, first}
+use Rattle.recovery.specs.LatentErrors.{less, absolute, figure, latentError, latentTestOf}
+use Rattle.octets.specs.Checks.{verdict}
+use Rattle.lines.specs.Lines.{octetsOf, decimalIn, text, faultText, labels, counted as listed, countersText}
+use Rattle.tape.specs.Event.{known, width, setupAt, begins, hears, acts, runs, checks, eventAt, outcomeAt}
+use Rattle.tape.specs.Player.{figures, linesFrom, played, tapeChecks, outputOf}
 
 -- a tape and what it prints
 pub record Case : Type 0 where
@@ -51,5 +55,8 @@ abbrev pub printed : Case → List ℕ
 printed c = octetsOf (c .lines)
 
 pub as-printed : map given cases ≡ map printed cases
-unfolding be16 be32 mark moved lostBy slid lostIn fullTicks ticksOf checked isVector plus freshState begunFrom awaits sound apart signed difference discarded late onward byDifference vector restarted numbered first counted settled heard packetOf less absolute figure latentError latentTestOf cases setup outputOf played linesFrom stepAt eventAt inTurn known width setupAt runs text counters decimalIn
+unfolding be16 be32 mark none clearFrom set reach moved lostBy slid lostIn fullTicks ticksOf setupChecks checked isVector plus freshState
+    begunFrom awaits sound apart signed difference late onward byDifference vector restarted numbered firstMarks first counted settled heard
+    packetOf less absolute figure latentError latentTestOf cases setup outputOf tapeChecks verdict played linesFrom figures outcomeAt eventAt
+    checks begins known width setupAt hears acts runs text faultText labels listed countersText decimalIn
 as-printed = refl

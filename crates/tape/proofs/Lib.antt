@@ -1,7 +1,4 @@
-pub mod Growth
-pub mod Decimal
-pub mod Decided
-pub mod Steps
+pub mod Turns
 pub mod Played
 pub mod Ran
 pub mod Examples

@@ -1,19 +1,19 @@
 -- A tape while it is played: what the page holds, and what is still to come. Assumes nothing.
 use Prim.Native.Nat.{ℕ, zero, suc, _+_, _*_, _≤_, _<_}
 use native.Mathlib.Omega.{arith}
-use mathlib.Core.Path.{_≡_, refl, sym, _∙_}
+use mathlib.Core.Path.{_≡_, refl, sym, ap, _∙_}
 use mathlib.Core.List.{List, [], _++_, append-assoc, append-nil}
 use lib.ListN.{length, take, getD}
 use Rattle.recovery.specs.declared.State.{State}
-use Rattle.tape.specs.declared.Line.{Line}
-use Rattle.tape.specs.declared.Bench.{Bench}
-use Rattle.tape.specs.declared.Bench.the-variants.{Waiting, Running}
-use Rattle.tape.specs.declared.Step.the-variants.{Next, Last}
-use Rattle.tape.specs.Lines.{text}
-use Rattle.tape.specs.Events.{width, stepAt}
-use Rattle.tape.specs.Tape.{linesFrom, played, enough}
-use Rattle.tape.specs.Page.{Holds, Appends}
-use Rattle.tape.proofs.Steps.{next-within, next-short, next-lines, last-lines}
+use Rattle.recovery.specs.declared.Counters.{Counters}
+use Rattle.lines.specs.declared.Line.{Line}
+use Rattle.lines.specs.Lines.{text, faultText, countersText, longest}
+use Rattle.lines.specs.Page.{Writes}
+use Rattle.lines.proofs.Table.{line-word}
+use Rattle.lines.proofs.Room.{Shown, shown}
+use Rattle.tape.specs.Event.{width, next, fault, end, Bench, waits, running, outcomeAt}
+use Rattle.tape.specs.Player.{figures, linesFrom, played, enough, Holds}
+use Rattle.tape.proofs.Turns.{next-within, next-lines, fault-lines, end-lines}
 
 -- the tape is played up to `at`, and the first n octets of the page are its lines so far
 pub record Playing (tape page : List ℕ) (at n : ℕ) (bench : Bench) : Type 0 where
@@ -25,7 +25,7 @@ pub record Playing (tape page : List ℕ) (at n : ℕ) (bench : Bench) : Type 0 
   pub more : length tape < at + most
   pub texts : take n page ++ linesFrom most tape at bench ≡ played tape
 
-pub starts : (tape page : List ℕ) → enough ≡ length page → Playing tape page 0 0 Waiting
+pub starts : (tape page : List ℕ) → enough ≡ length page → Playing tape page 0 0 waits
 unfolding played
 starts tape page e =
     record {
@@ -37,30 +37,52 @@ starts tape page e =
       texts = refl;
     }
 
-module _ {tape page : List ℕ} {at n : ℕ} {bench : Bench} (p : Playing tape page at n bench) (line : Line) {r : ℕ} {later : List ℕ} (x : Appends (text line) page n r later) where
-  -- the first line of those to come is on the page now
-  shown : (rest lines : List ℕ) → lines ≡ text line ++ rest → take n page ++ lines ≡ played tape → take r later ++ rest ≡ played tape
-  shown rest lines e texts = rw (x .front) (append-assoc (take n page) (text line) rest ∙ rw (← e) texts)
+module _ {tape page : List ℕ} {at n : ℕ} {bench : Bench} (small : length tape ≤ 4096) (p : Playing tape page at n bench) where
+  -- there is room for one line more
+  pub one-more : n + longest ≤ length page
+  one-more = omega (arith, p .within, p .short, p .room)
 
-  ends-by : (m : ℕ) → length tape < at + m → take n page ++ linesFrom m tape at bench ≡ played tape → stepAt tape at bench ≡ Last line → take r later ≡ played tape
-  ends-by zero more texts e = absurd (omega (arith, p .within))
-  ends-by (suc k) more texts e = sym (append-nil (take r later)) ∙ shown [] _ (last-lines tape at bench e k ∙ sym (append-nil (text line))) texts
+  -- the line that comes next is on the page now
+  joined : {line later : List ℕ} {r : ℕ} → Writes line page n r later → (rest lines : List ℕ) → lines ≡ line ++ rest
+      → take n page ++ lines ≡ played tape → take r later ++ rest ≡ played tape
+  joined {line} w rest lines e texts = rw (shown one-more w .front) (append-assoc (take n page) line rest ∙ rw (← e) texts)
 
-  goes-by : (m : ℕ) → length tape < at + m → take n page ++ linesFrom m tape at bench ≡ played tape
-      → (s : State) → stepAt tape at bench ≡ Next line s → Playing tape later (at + 1 + width (getD tape at 0)) r (Running s)
-  goes-by zero more texts s e = absurd (omega (arith, p .within))
-  goes-by (suc k) more texts s e =
+  -- a line that ends the output
+  ends-by : {line later : List ℕ} {r : ℕ} → Writes line page n r later → (m : ℕ) → length tape < at + m
+      → take n page ++ linesFrom m tape at bench ≡ played tape → ((k : ℕ) → linesFrom (suc k) tape at bench ≡ line)
+      → Holds (played tape) r later
+  ends-by w zero more texts e = absurd (omega (arith, p .within))
+  ends-by {line} {later} {r} w (suc k) more texts e =
       record {
-        within = next-within tape at bench e;
-        short = omega (arith, p .short, x .ends, next-short tape at bench e);
-        room = p .room ∙ sym (x .same);
-        most = k;
-        more = omega arith;
-        texts = shown _ _ (next-lines tape at bench e k) texts;
+        within = shown one-more w .within;
+        texts = sym (append-nil (take r later)) ∙ joined w [] _ (e k ∙ sym (append-nil line)) texts;
       }
 
-  pub ends : stepAt tape at bench ≡ Last line → Holds (played tape) r later
-  ends e = record { within = x .within; texts = ends-by (p .most) (p .more) (p .texts) e }
+  pub ends-faulty : {number r : ℕ} {later : List ℕ} → Writes (faultText number) page n r later → outcomeAt tape at bench ≡ fault number
+      → Holds (played tape) r later
+  ends-faulty w e = ends-by w (p .most) (p .more) (p .texts) (λ k. fault-lines tape at bench k e)
 
-  pub goes : (s : State) → stepAt tape at bench ≡ Next line s → Playing tape later (at + 1 + width (getD tape at 0)) r (Running s)
-  goes s e = goes-by (p .most) (p .more) (p .texts) s e
+  pub ends-well : {k : Counters} {r : ℕ} {later : List ℕ} → Writes (countersText (figures k)) page n r later
+      → outcomeAt tape at bench ≡ end k → Holds (played tape) r later
+  ends-well w e = ends-by w (p .most) (p .more) (p .texts) (λ m. end-lines tape at bench m e)
+
+  goes-by : (line : Line) {r : ℕ} {later : List ℕ} → Writes (text line) page n r later → (m : ℕ) → length tape < at + m
+      → take n page ++ linesFrom m tape at bench ≡ played tape → {s : State} → outcomeAt tape at bench ≡ next line s
+      → Playing tape later (at + 1 + width (getD tape at 0)) r (running s)
+  goes-by line w zero more texts e = absurd (omega (arith, p .within))
+  goes-by line w (suc k) more texts e =
+      let on = shown one-more w in
+      let thirteen : length (text line) ≤ 13 = rw (line-word line .texts) at (line-word line .short) in
+      record {
+        within = next-within tape at bench e;
+        short = omega (arith, p .short, on .ends, thirteen);
+        room = p .room ∙ sym (on .same);
+        most = k;
+        more = omega arith;
+        texts = joined w _ _ (next-lines tape at bench k e) texts;
+      }
+
+  pub goes : {line : Line} {r : ℕ} {later : List ℕ} → Writes (text line) page n r later → {s : State}
+      → outcomeAt tape at bench ≡ next line s
+      → Playing tape later (at + 1 + width (getD tape at 0)) r (running s)
+  goes {line} w e = goes-by line w (p .most) (p .more) (p .texts) e

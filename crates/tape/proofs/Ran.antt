@@ -7,11 +7,10 @@ use mathlib.Core.List.{List}
 use lib.ListN.{length, take, drop, length-append}
 use borrow.Author.Tests.{le-leb}
 use lib.Seq.{length-take-le}
-use Rattle.octets.specs.Octets.{fits, putIn, Puts}
+use Rattle.octets.specs.Copy.{fits, putIn, Puts}
 use Rattle.tape.specs.declared.Written.{Written}
 use Rattle.tape.specs.declared.Written.the-variants as written
-use Rattle.tape.specs.Page.{Holds}
-use Rattle.tape.specs.Tape.{enough, outputOf, Runs}
+use Rattle.tape.specs.Player.{enough, outputOf, Holds, Runs}
 
 -- a length is no refusal, and two lengths that are equal are one
 is : {n m : ℕ} → written.Length n ≡ written.Length m → n ≡ m

@@ -1,4 +1,2 @@
-pub mod Lines
-pub mod Events
-pub mod Tape
-pub mod Page
+pub mod Event
+pub mod Player

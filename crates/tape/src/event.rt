@@ -2,22 +2,20 @@
 ghost use mathlib.Core.Path.{_≡_};
 ghost use Prim.Native.Nat.{_<_};
 ghost use lib.ListN.{length};
-ghost use Rattle.tape.specs.Events.{known as isKnown, width as widthOf, setupAt, begins, hears, times, changes, tests, runs as runsBy, eventAt, stepAt};
-use crate::Bench;
-use crate::Line;
-use crate::Step;
+ghost use Rattle.octets.specs.Checks.{verdict as verdictOf, refusal};
+ghost use Rattle.tape.specs.Event.{known as isKnown, width as widthOf, setupAt, checks, eventAt, outcomeAt, benchOf, told};
+ghost use Rattle.tape.specs.Event.{byVerdict, byTick, byChange, byTest, hears as hearsBy, acts as actsBy, runs as runsBy, begins as beginsBy};
+use crate::Said;
+use crate::Turn;
+use lines::Line;
 use recovery::Begun;
 use recovery::Change;
-use recovery::Changed;
-use recovery::Heard;
 use recovery::Latent;
-use recovery::Milliseconds;
 use recovery::Packet;
-use recovery::Setup;
 use recovery::State;
 use recovery::Ticked;
-use recovery::Timed;
 use recovery::Verdict;
+use setup::Setup;
 
 fn known(kind: u8) -> bool
     ensures { λ r. ⌜ r ≡ isKnown kind ⌝ }
@@ -37,137 +35,192 @@ pub fn width(kind: u8) -> usize
     }
 }
 
+// The number of the first check that an event does not meet, and 0 where it meets all.
+fn refused(tape: &[u8], at: usize, begun: bool) -> u8
+    requires { ⌜ at < length (now tape) ⌝ }
+    ensures { λ r. ⌜ r ≡ refusal (verdictOf (checks (now (tape .entry)) at begun)) ⌝ }
+{
+    let kind = octets::octet(tape, at);
+    if !known(kind) {
+        return 23;
+    }
+    if tape.len() - at <= width(kind) {
+        return 24;
+    }
+    if (begun & (kind == 15)) | (!begun & (kind != 15)) {
+        return 25;
+    }
+    0
+}
+
 fn setup_at(tape: &[u8], at: usize) -> Setup
     requires { ⌜ at < length (now tape) ⌝ }
     ensures { λ r. ⌜ r ≡ setupAt (now (tape .entry)) at ⌝ }
 {
-    let timeout = Milliseconds(octets::word32(tape, at + 5));
-    Setup {
-        rule: octets::octet(tape, at + 1),
-        taken: octets::octet(tape, at + 2),
-        history: octets::word16(tape, at + 3),
-        timeout,
-        rate: octets::word16(tape, at + 9),
-        paths: octets::octet(tape, at + 11),
-        difference: octets::word32(tape, at + 12),
-    }
+    Setup::of(
+        octets::octet(tape, at + 1),
+        octets::octet(tape, at + 2),
+        octets::word16(tape, at + 3),
+        octets::word32(tape, at + 5),
+        octets::word16(tape, at + 9),
+        octets::octet(tape, at + 11),
+        octets::word32(tape, at + 12),
+    )
 }
 
-fn begun(answer: Begun) -> Step
-    ensures { λ r. ⌜ r ≡ begins answer ⌝ }
+fn of_verdict(verdict: Verdict) -> Said
+    ensures { λ r. ⌜ r ≡ byVerdict verdict ⌝ }
 {
-    match answer {
-        Begun::Ready(state) => Step::Next(Line::Ok, state),
-        Begun::Refused(number) => Step::Last(Line::Fault(number)),
-    }
-}
-
-fn heard(answer: Heard) -> Step
-    ensures { λ r. ⌜ r ≡ hears answer ⌝ }
-{
-    let state = answer.state;
-    let verdict = answer.verdict;
     match verdict {
-        Verdict::Pass => Step::Next(Line::Pass, state),
-        Verdict::Discard => Step::Next(Line::Discard, state),
-        Verdict::Refused(number) => Step::Last(Line::Fault(number)),
+        Verdict::Pass => Said::Event(Line::Pass),
+        Verdict::Discard => Said::Event(Line::Discard),
+        Verdict::Refused(number) => Said::Fault(number),
     }
 }
 
-fn timed(answer: Timed) -> Step
-    ensures { λ r. ⌜ r ≡ times answer ⌝ }
+fn of_tick(ticked: Ticked) -> Said
+    ensures { λ r. ⌜ r ≡ byTick ticked ⌝ }
 {
-    let state = answer.state;
-    let ticked = answer.ticked;
     match ticked {
-        Ticked::Tick => Step::Next(Line::Tick, state),
-        Ticked::Reset => Step::Next(Line::Reset, state),
-        Ticked::Refused(number) => Step::Last(Line::Fault(number)),
+        Ticked::Tick => Said::Event(Line::Tick),
+        Ticked::Reset => Said::Event(Line::Reset),
+        Ticked::Refused(number) => Said::Fault(number),
     }
 }
 
-fn changed(line: Line, answer: Changed) -> Step
-    ensures { λ r. ⌜ r ≡ changes line answer ⌝ }
+fn of_change(line: Line, change: Change) -> Said
+    ensures { λ r. ⌜ r ≡ byChange line change ⌝ }
 {
-    let state = answer.state;
-    let change = answer.change;
     match change {
-        Change::Done => Step::Next(line, state),
-        Change::Refused(number) => Step::Last(Line::Fault(number)),
+        Change::Done => Said::Event(line),
+        Change::Refused(number) => Said::Fault(number),
     }
 }
 
-fn tested(state: State, answer: Latent) -> Step
-    ensures { λ r. ⌜ r ≡ tests state answer ⌝ }
+fn of_test(latent: Latent) -> Said
+    ensures { λ r. ⌜ r ≡ byTest latent ⌝ }
 {
-    match answer {
-        Latent::Agrees => Step::Next(Line::LatentOk, state),
-        Latent::Error => Step::Next(Line::LatentError, state),
-        Latent::Refused(number) => Step::Last(Line::Fault(number)),
+    match latent {
+        Latent::Agrees => Said::Event(Line::LatentOk),
+        Latent::Error => Said::Event(Line::LatentError),
+        Latent::Refused(number) => Said::Fault(number),
     }
 }
 
-// An event of a known kind, whole, that is no setup.
-fn runs(tape: &[u8], at: usize, kind: u8, state: State) -> Step
-    requires { ⌜ at < length (now tape) ⌝ }
-    ensures { λ r. ⌜ r ≡ runsBy (now (tape .entry)) at kind state ⌝ }
+// A packet.
+fn hears(packet: Packet, state: State) -> Turn
+    ensures { λ r. ⌜ told r ≡ hearsBy packet state ⌝ }
 {
-    if kind == 1 {
-        heard(state.packet(Packet::Numbered(octets::word16(tape, at + 1))))
-    } else if kind == 2 {
-        heard(state.packet(Packet::Tagless))
-    } else if kind == 3 {
-        timed(state.tick())
+    let answer = state.packet(packet);
+    let verdict = answer.verdict;
+    let next = answer.state;
+    Turn {
+        said: of_verdict(verdict),
+        state: next,
+    }
+}
+
+// An event that is neither a setup nor a packet.
+fn acts(kind: u8, state: State) -> Turn
+    ensures { λ r. ⌜ told r ≡ actsBy kind state ⌝ }
+{
+    if kind == 3 {
+        let answer = state.tick();
+        let ticked = answer.ticked;
+        let next = answer.state;
+        Turn {
+            said: of_tick(ticked),
+            state: next,
+        }
     } else if kind == 4 {
-        changed(Line::Reset, state.reset())
+        let answer = state.reset();
+        let change = answer.change;
+        let next = answer.state;
+        Turn {
+            said: of_change(Line::Reset, change),
+            state: next,
+        }
     } else if kind == 5 {
-        changed(Line::LatentReset, state.latent_reset())
+        let answer = state.latent_reset();
+        let change = answer.change;
+        let next = answer.state;
+        Turn {
+            said: of_change(Line::LatentReset, change),
+            state: next,
+        }
     } else {
-        tested(state, state.latent_test())
+        Turn {
+            said: of_test(state.latent_test()),
+            state,
+        }
     }
 }
 
-fn event(tape: &[u8], at: usize, bench: Bench) -> Step
+// An event that is no setup.
+fn runs(tape: &[u8], at: usize, state: State) -> Turn
     requires { ⌜ at < length (now tape) ⌝ }
-    ensures { λ r. ⌜ r ≡ eventAt (now (tape .entry)) at bench ⌝ }
+    ensures { λ r. ⌜ told r ≡ runsBy (now (tape .entry)) at state ⌝ }
 {
     let kind = octets::octet(tape, at);
-    if !known(kind) {
-        return Step::Last(Line::Fault(23));
+    if kind == 1 {
+        hears(Packet::Numbered(octets::word16(tape, at + 1)), state)
+    } else if kind == 2 {
+        hears(Packet::Tagless, state)
+    } else {
+        acts(kind, state)
     }
-    if tape.len() - at <= width(kind) {
-        return Step::Last(Line::Fault(24));
+}
+
+// A setup.
+fn begins(tape: &[u8], at: usize, state: State) -> Turn
+    requires { ⌜ at < length (now tape) ⌝ }
+    ensures { λ r. ⌜ told r ≡ beginsBy (now (tape .entry)) at ⌝ }
+{
+    match State::fresh(setup_at(tape, at)) {
+        Begun::Ready(fresh) => Turn {
+            said: Said::Event(Line::Ok),
+            state: fresh,
+        },
+        Begun::Refused(number) => Turn {
+            said: Said::Fault(number),
+            state,
+        },
     }
-    match bench {
-        Bench::Waiting => {
-            if kind == 15 {
-                begun(State::fresh(setup_at(tape, at)))
-            } else {
-                Step::Last(Line::Fault(25))
-            }
-        }
-        Bench::Running(state) => {
-            if kind != 15 {
-                runs(tape, at, kind, state)
-            } else {
-                Step::Last(Line::Fault(25))
-            }
-        }
+}
+
+fn event(tape: &[u8], at: usize, begun: bool, state: State) -> Turn
+    requires { ⌜ at < length (now tape) ⌝ }
+    ensures { λ r. ⌜ told r ≡ eventAt (now (tape .entry)) at (benchOf begun state) ⌝ }
+{
+    let unmet = refused(tape, at, begun);
+    if unmet != 0 {
+        return Turn {
+            said: Said::Fault(unmet),
+            state,
+        };
+    }
+    if begun {
+        runs(tape, at, state)
+    } else {
+        begins(tape, at, state)
     }
 }
 
 // The event at a place, or what stands at the end.
-pub fn step(tape: &[u8], at: usize, bench: Bench) -> Step
-    ensures { λ r. ⌜ r ≡ stepAt (now (tape .entry)) at bench ⌝ }
+pub fn outcome(tape: &[u8], at: usize, begun: bool, state: State) -> Turn
+    ensures { λ r. ⌜ told r ≡ outcomeAt (now (tape .entry)) at (benchOf begun state) ⌝ }
 {
     if at < tape.len() {
-        return event(tape, at, bench);
-    }
-    match bench {
-        Bench::Waiting => Step::Last(Line::Fault(25)),
-        Bench::Running(state) => {
-            let counters = state.counters;
-            Step::Last(Line::Counts(counters))
+        event(tape, at, begun, state)
+    } else if begun {
+        Turn {
+            said: Said::End,
+            state,
+        }
+    } else {
+        Turn {
+            said: Said::Fault(25),
+            state,
         }
     }
 }

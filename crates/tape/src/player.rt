@@ -2,15 +2,57 @@
 ghost use mathlib.Core.Path.{_≡_};
 ghost use Prim.Native.Nat.{_≤_};
 ghost use lib.ListN.{length};
-ghost use Rattle.tape.specs.Page.{Holds};
-ghost use Rattle.tape.specs.Tape.{enough, played, outputOf, Runs};
-use crate::Bench;
-use crate::Line;
-use crate::Step;
+ghost use Rattle.tape.specs.Player.{figures as figuresOf, enough, played, outputOf, Holds, Runs};
+use crate::Said;
 use crate::Written;
-use crate::event::step;
+use crate::event::outcome;
 use crate::event::width;
-use crate::page::write;
+use recovery::Counters;
+use recovery::State;
+use setup::Setup;
+use setup::Ticks;
+
+// The counters in the order of the last line.
+fn figures(k: Counters) -> [u64; 8]
+    ensures { λ r. ⌜ r ≡ figuresOf k ⌝ }
+{
+    [
+        k.passed,
+        k.discarded,
+        k.order,
+        k.rogue,
+        k.lost,
+        k.tagless,
+        k.resets,
+        k.latent_resets,
+    ]
+}
+
+// What stands in the place of the state before the setup. Nothing reads it.
+fn unset() -> State {
+    let counters = Counters {
+        passed: 0,
+        discarded: 0,
+        order: 0,
+        rogue: 0,
+        lost: 0,
+        tagless: 0,
+        resets: 0,
+        latent_resets: 0,
+    };
+    let left = Ticks(0);
+    let marks = marks::none();
+    let setup = Setup::of(0, 0, 0, 0, 0, 0, 0);
+    State {
+        setup,
+        newest: 0,
+        marks,
+        take_any: false,
+        left,
+        counters,
+        base: 0,
+    }
+}
 
 // The lines of a tape that is not too long.
 fn play(tape: &[u8], page: &mut [u8]) -> usize
@@ -20,26 +62,31 @@ fn play(tape: &[u8], page: &mut [u8]) -> usize
 {
     let mut at = 0;
     let mut written = 0;
-    let mut bench = Bench::Waiting;
+    let mut begun = false;
+    let mut state = unset();
     loop {
-        match step(tape, at, bench) {
-            Step::Last(line) => return write(line, page, written),
-            Step::Next(line, state) => {
-                written = write(line, page, written);
+        let turn = outcome(tape, at, begun, state);
+        let said = turn.said;
+        state = turn.state;
+        match said {
+            Said::Event(line) => {
+                written = lines::write(line, page, written);
                 at = at + 1 + width(octets::octet(tape, at));
-                bench = Bench::Running(state);
+                begun = true;
             }
+            Said::Fault(number) => return lines::fault(number, page, written),
+            Said::End => return lines::counts(figures(state.counters), page, written),
         }
     }
 }
 
-// The whole output; 26 before all else.
+// The whole output: "26 is checked before all else on a tape".
 fn output(tape: &[u8], page: &mut [u8]) -> usize
     requires { ⌜ enough ≡ length (now page) ⌝ }
     ensures { λ r. ⌜ Holds (outputOf (now (tape .entry))) r (now (page .exit)) ⌝ }
 {
     if tape.len() > 4096 {
-        write(Line::Fault(26), page, 0)
+        lines::fault(26, page, 0)
     } else {
         play(tape, page)
     }

@@ -8,6 +8,24 @@ use borrow.Author.Needs.{needs}
 use Rattle.bench.proofs.main.Statement.{statement}
 use Rattle.bench.proofs.main.Tie as tie
 
+slice-aggregate-read-full : tie.Need-slice-aggregate-read-full
+slice-aggregate-read-full c = search needs
+
+array-share-prefix-octets : tie.Need-array-share-prefix-octets
+array-share-prefix-octets c = search needs
+
+slice-aggregate-run : tie.Need-slice-aggregate-run
+slice-aggregate-run c = search needs
+
+slice-aggregate-run-2 : tie.Need-slice-aggregate-run-2
+slice-aggregate-run-2 c = search needs
+
+enum-known-length : tie.Need-enum-known-length
+enum-known-length c = search needs
+
+enum-told : tie.Need-enum-told
+enum-told c = search needs
+
 -- the length that is answered lies within the page
 page-within : (c : tie.After-known-told) → c .before .length .given .0 .0 ≤ length (c .before .before .before .before .run .last .1 .0)
 page-within c = within _ _ (rw (c .before .length .given .1) at (c .before .before .before .before .run .ensures))
@@ -21,18 +39,15 @@ slice-aggregate-write-all c = sym (length-take-le _ _ (page-within (c .before)))
 pub main-spec : {M : Type 1} → statement M
 main-spec =
     tie.close
-    (tie.spec
-    (λ c. search needs)
-    (λ c κs. search needs)
-    (λ c κs. search needs)
-    (λ c. search needs)
-    (λ c. search needs)
-    (λ c. search needs)
-    (λ c κs. search needs)
-    (λ c. search needs)
-    array-share-prefix-page
-    slice-aggregate-write-all
-    (λ c κs. search needs)
-    (λ c. search needs)
-    (λ c. search needs)
-    (λ c. search needs))
+    (search (
+      tie.spec,
+      slice-aggregate-read-full,
+      array-share-prefix-octets,
+      slice-aggregate-run,
+      slice-aggregate-run-2,
+      enum-known-length,
+      array-share-prefix-page,
+      slice-aggregate-write-all,
+      enum-told,
+      needs,
+    ))

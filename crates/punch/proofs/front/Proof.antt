@@ -6,8 +6,9 @@ use borrow.Author.Needs.{needs}
 use Rattle.punch.proofs.front.Statement.{statement}
 use Rattle.punch.proofs.front.Tie as tie
 
+-- the part lies within the octets
 slice-aggregate-result : tie.Need-slice-aggregate-result
 slice-aggregate-result c = sym (length-take-le _ _ (omega arith))
 
 pub front-spec : {M : Type 1} → statement M
-front-spec = tie.close (tie.spec slice-aggregate-result (λ c. search needs) (λ c. search needs))
+front-spec = tie.close (search (tie.spec, slice-aggregate-result, needs))

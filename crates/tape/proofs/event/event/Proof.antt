@@ -1,63 +1,48 @@
 -- `tape::event::event` meets its contract: the checks in their order, and then the event in its turn. Assumes nothing.
-use Prim.Native.Nat.{_+_}
-use lib.ListN.{length}
-use native.Mathlib.Omega.{arith}
-use mathlib.Core.Path.{_≡_, _∙_, ap}
-use borrow.Author.Tests.{eq-eqb, ne-eqb, le-leb, lt-leb}
-use Rattle.recovery.specs.State.{begunFrom}
-use Rattle.recovery.proofs.BoolLaws.{said-yes, said-no}
-use Rattle.tape.specs.Events.{width, begins, inTurn, eventAt}
+use mathlib.Core.Path.{_≡_, sym, _∙_}
+use mathlib.Core.Bool.{Bool}
+use Rattle.octets.specs.Checks.{verdict}
+use Rattle.tape.specs.Event.{checks, inTurn, eventAt, waits, running, benchOf}
+use Rattle.tape.proofs.Turns.{set-up, refused-says, in-turn}
 use borrow.Author.Needs.{needs}
 use Rattle.tape.proofs.event.event.Statement.{statement}
 use Rattle.tape.proofs.event.event.Tie as tie
 
+refused-requires : tie.Need-refused-requires
+refused-requires c κs = search needs
+
+-- a check that is not met
 returns : tie.Need-returns
 unfolding eventAt
-returns c = rw (← (c .before .before .octet .ensures), said-no (c .before .known .ensures) (c .if1 .taken))
+returns c =
+    let a = c .before .before .before .args in
+    rw (set-up (a .begun) (a .state))
+    (refused-says (verdict (checks (a .tape .now) (a .at) (a .begun))) (inTurn (a .tape .now) (a .at) (benchOf (a .begun) (a .state)))
+    (c .before .refused .ensures) (c .if1 .taken))
 
+runs-requires : tie.Need-runs-requires
+runs-requires c κs = search needs
+
+begins-requires : tie.Need-begins-requires
+begins-requires c κs = search needs
+
+-- an event on a state
 returns-2 : tie.Need-returns-2
-unfolding eventAt
-returns-2 c = rw (← (c .before .before .before .before .octet .ensures), said-yes (c .before .before .before .known .ensures) (c .before .before .if1 .left), lt-leb (c .before .before .before .before .before .before .args .at + 1 + width (c .before .before .before .before .octet .result)) (length (c .before .before .before .before .before .before .args .tape .now)) (omega (arith, c .before .width .ensures)))
+returns-2 c =
+    let set = c .before .if2 .taken in
+    let at-check = c .before .before in
+    let a = at-check .before .before .before .args in
+    let met = sym (rw set at (at-check .before .refused .ensures)) ∙ at-check .if1 .left in
+    rw set (c .runs .ensures ∙ sym (in-turn (a .tape .now) (a .at) (running (a .state)) met))
 
--- an event of a known kind, whole
-whole : (c : tie.Else2) → let a = c .before .before .before .before .before .before .args in eventAt (a .tape .now) (a .at) (a .bench) ≡ inTurn (a .tape .now) (a .at) (c .before .before .before .before .octet .result) (a .bench)
-unfolding eventAt
-whole c =
-    rw (← (c .before .before .before .before .octet .ensures), said-yes (c .before .before .before .known .ensures) (c .before .before .if1 .left), le-leb (c .before .before .before .before .before .before .args .at + 1 + width (c .before .before .before .before .octet .result)) (length (c .before .before .before .before .before .before .args .tape .now)) (omega (arith, c .before .width .ensures)))
-
+-- a setup
 returns-3 : tie.Need-returns-3
-unfolding inTurn
-returns-3 c = rw (whole (c .before .before .before .before .before .before), c .before .before .before .before .enum-told .given .1, eq-eqb _ _ (c .before .before .before .if3 .taken)) (c .begun .ensures ∙ ap begins (c .before .fresh .ensures ∙ ap begunFrom (c .before .before .setup-at .ensures)))
-
-returns-4 : tie.Need-returns-4
-unfolding inTurn
-returns-4 c = rw (whole (c .before .before .before), c .before .enum-told .given .1, ne-eqb _ _ (c .if3 .left))
-
-returns-5 : tie.Need-returns-5
-unfolding inTurn
-returns-5 c = rw (whole (c .before .before .before .before .before), c .before .before .before .bench .given .1, ne-eqb _ _ (c .before .if4 .taken)) (c .runs .ensures)
-
-returns-6 : tie.Need-returns-6
-unfolding inTurn
-returns-6 c = rw (whole (c .before .before .before .before), c .before .before .bench .given .1, eq-eqb _ _ (c .if4 .left))
+returns-3 c =
+    let unset = c .before .if2 .left in
+    let at-check = c .before .before in
+    let a = at-check .before .before .before .args in
+    let met = sym (rw unset at (at-check .before .refused .ensures)) ∙ at-check .if1 .left in
+    rw unset (c .begins .ensures ∙ sym (in-turn (a .tape .now) (a .at) waits met))
 
 pub event-spec : {M : Type 1} → statement M
-event-spec =
-    tie.close
-    (tie.spec
-    (λ c κs. search needs)
-    (λ c κs. search needs)
-    returns
-    (λ c. search needs)
-    (λ c κs. search needs)
-    returns-2
-    (λ c. search needs)
-    (λ c κs. search needs)
-    (λ c κs. search needs)
-    (λ c κs. search needs)
-    (λ c. search needs)
-    (λ c κs. search needs)
-    returns-3
-    returns-4
-    returns-5
-    returns-6)
+event-spec = tie.close (tie.spec refused-requires returns runs-requires begins-requires returns-2 returns-3)

@@ -1,6 +1,6 @@
 -- `tape::event::known` meets its contract. Assumes nothing.
+use Rattle.tape.specs.Event.{known}
 use borrow.Author.Needs.{needs}
-use Rattle.tape.specs.Events.{known}
 use Rattle.tape.proofs.event.known.Statement.{statement}
 use Rattle.tape.proofs.event.known.Tie as tie
 

@@ -1,29 +1,43 @@
 -- `tape::player::output` meets its contract: 26 before all else, and then the tape played. Assumes nothing.
 use native.Mathlib.Omega.{arith}
+use lib.ListN.{length}
 use borrow.Author.Needs.{needs}
 use borrow.Author.Tests.{lt-ltb, le-ltb}
-use Rattle.tape.specs.Tape.{outputOf}
-use Rattle.tape.proofs.Growth.{from-start}
+use Rattle.octets.specs.Checks.{verdict}
+use Rattle.lines.proofs.Room.{shown}
+use Rattle.tape.specs.Player.{tapeChecks, outputOf}
 use Rattle.tape.proofs.player.output.Statement.{statement}
 use Rattle.tape.proofs.player.output.Tie as tie
 
-write-requires : tie.Need-write-requires
-write-requires c κs = omega (arith, c .before .before .before .before .pre)
+fault-requires : tie.Need-fault-requires
+fault-requires c κs = search needs
 
 play-requires : tie.Need-play-requires
-play-requires c κs = (omega (arith, c .before .if1 .left), c .before .before .before .before .pre)
+play-requires c κs = (omega arith, search needs)
 
-same-length : tie.Need-same-length
-same-length c = c .before .before .write .ensures .same
+length-kept : tie.Need-same-length
+length-kept c =
+    let start = c .before .before .before .before .before .before .before in
+    shown (omega (arith, start .pre)) (c .before .before .fault .ensures) .same
 
+-- a tape over 4,096
 returns : tie.Need-returns
-unfolding outputOf
-returns c = rw (lt-ltb _ _ (c .before .before .before .before .if1 .taken)) (from-start (c .before .before .write .ensures))
+unfolding outputOf tapeChecks verdict
+returns c =
+    let start = c .before .before .before .before .before .before .before in
+    let on = shown (omega (arith, start .pre)) (c .before .before .fault .ensures) in
+    rw (lt-ltb 4096 (length (start .args .tape .now)) (omega (arith, c .before .before .before .before .if1 .taken))) (record { within = on .within; texts = on .front })
 
+length-kept-2 : tie.Need-same-length-2
+length-kept-2 c = search needs
+
+-- every other
 returns-2 : tie.Need-returns-2
-unfolding outputOf
-returns-2 c = rw (le-ltb _ _ (c .before .before .before .before .if1 .left)) (c .before .before .play .ensures)
+unfolding outputOf tapeChecks verdict
+returns-2 c =
+    let start = c .before .before .before .before .before .before .before in
+    rw (le-ltb 4096 (length (start .args .tape .now)) (omega (arith, c .before .before .before .before .if1 .left)))
+    (c .before .before .play .ensures)
 
 pub output-spec : {M : Type 1} → statement M
-output-spec =
-    tie.close (tie.spec write-requires play-requires same-length returns (λ c. search needs) returns-2)
+output-spec = tie.close (tie.spec fault-requires play-requires length-kept returns length-kept-2 returns-2)

@@ -1,0 +1,87 @@
+// A line written behind what a page already holds.
+ghost use mathlib.Core.Path.{_≡_};
+ghost use Prim.Native.Nat.{_+_, _≤_, _<_};
+ghost use mathlib.Core.List.{_++_};
+ghost use lib.ListN.{length};
+ghost use lib.Dec.{leb};
+ghost use Rattle.lines.specs.Lines.{decimal, text, faultText, countersText, longest};
+ghost use Rattle.lines.specs.Words.{wordAt, AppendsWithin};
+ghost use Rattle.lines.specs.Page.{Writes};
+use crate::Line;
+use crate::words::FAULT;
+use crate::words::LABELS;
+use crate::words::NEWLINE;
+use crate::words::append;
+use crate::words::place;
+use crate::words::word;
+
+// Whether the longest line fits behind a place.
+fn has_room(length: usize, at: usize) -> bool
+    ensures { λ r. ⌜ r ≡ leb (at + longest) length ⌝ }
+{
+    if 231 <= length {
+        at <= length - 231
+    } else {
+        false
+    }
+}
+
+// A word and the number behind it, in decimal.
+fn count(i: usize, n: u64, page: &mut [u8], at: usize) -> usize
+    requires { ⌜ i < 18 ⌝ }
+    requires { ⌜ at + length (wordAt i) + 20 ≤ length (now page) ⌝ }
+    ensures { λ r. ⌜ AppendsWithin (length (wordAt i) + 20) (wordAt i ++ decimal n) (now (page .entry)) at r (now (page .exit)) ⌝ }
+{
+    let mut digits = [0u8; 20];
+    let k = io::decimal(n, &mut digits);
+    let behind = word(i, page, at);
+    append(&digits[..k], page, behind)
+}
+
+// The line of an event.
+pub fn write(line: Line, page: &mut [u8], at: usize) -> usize
+    ensures { λ r. ⌜ Writes (text line) (now (page .entry)) at r (now (page .exit)) ⌝ }
+{
+    if has_room(page.len(), at) {
+        word(place(line), page, at)
+    } else {
+        at
+    }
+}
+
+// The line of a fault.
+pub fn fault(number: u8, page: &mut [u8], at: usize) -> usize
+    ensures { λ r. ⌜ Writes (faultText number) (now (page .entry)) at r (now (page .exit)) ⌝ }
+{
+    if has_room(page.len(), at) {
+        let behind = count(FAULT, number as u64, page, at);
+        word(NEWLINE, page, behind)
+    } else {
+        at
+    }
+}
+
+// The eight counters.
+fn count_all(counters: [u64; 8], page: &mut [u8], at: usize) -> usize
+    requires { ⌜ at + longest ≤ length (now page) ⌝ }
+    ensures { λ r. ⌜ AppendsWithin longest (countersText counters) (now (page .entry)) at r (now (page .exit)) ⌝ }
+{
+    let mut behind = at;
+    let mut i = 0;
+    while i < 8 {
+        behind = count(LABELS + i, counters[i], page, behind);
+        i += 1;
+    }
+    word(NEWLINE, page, behind)
+}
+
+// The last line of a tape without a fault.
+pub fn counts(counters: [u64; 8], page: &mut [u8], at: usize) -> usize
+    ensures { λ r. ⌜ Writes (countersText counters) (now (page .entry)) at r (now (page .exit)) ⌝ }
+{
+    if has_room(page.len(), at) {
+        count_all(counters, page, at)
+    } else {
+        at
+    }
+}
