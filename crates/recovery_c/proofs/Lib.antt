@@ -1,0 +1,4 @@
+pub mod Held
+pub mod Told
+pub mod Kept
+pub mod Unique

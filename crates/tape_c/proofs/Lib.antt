@@ -1,0 +1,2 @@
+pub mod TapeTold
+pub mod Unique
