@@ -1,5 +1,5 @@
 //! Finds the archive of the proved layer: in the folder that AHOZURIME_ARCHIVE names, else where
-//! `tools/archive` leaves it, beside this package.
+//! `tools/archive` leaves the one for the target that is compiled for, beside this package.
 
 use std::env;
 use std::path::PathBuf;
@@ -8,7 +8,8 @@ fn main() {
     println!("cargo:rerun-if-env-changed=AHOZURIME_ARCHIVE");
     let folder = env::var_os("AHOZURIME_ARCHIVE").map(PathBuf::from).unwrap_or_else(|| {
         let package = env::var_os("CARGO_MANIFEST_DIR").expect("cargo says where the package is");
-        PathBuf::from(package).join("../target/archive")
+        let target = env::var_os("CARGO_CFG_TARGET_ARCH").expect("cargo says what it compiles for");
+        PathBuf::from(package).join("../target/archive").join(target)
     });
     let archive = folder.join("libahozurime.a");
     println!("cargo:rerun-if-changed={}", archive.display());

@@ -1,6 +1,6 @@
 /* Ahozurime: the proved link layer, for C and C++.
  *
- * Link target/archive/libahozurime.a, which tools/archive makes. The numbers in quotes below are those of the scope paper, "When the
+ * Link target/archive/TARGET/libahozurime.a, which tools/archive makes. The numbers in quotes below are those of the scope paper, "When the
  * layer says no".
  *
  * Answers. Every call that can refuse answers one number:
