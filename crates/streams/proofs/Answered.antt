@@ -11,7 +11,8 @@ use Rattle.frame.proofs.Accepted.{frame-good, refused-by}
 use Rattle.streams.specs.declared.Checked.the-variants as Checked
 use Rattle.streams.specs.declared.Found.{Found}
 use Rattle.streams.specs.declared.Found.the-variants.{Stream, NoStream, Refused}
-use Rattle.streams.specs.Entry.{fields, matches}
+use Rattle.entry.specs.Contents.{fields}
+use Rattle.entry.specs.Matching.{matches}
 use Rattle.streams.specs.Table.{entries, tableVerdict, firstMatch, foundBy, lookupOf, checkedBy, walked, ChecksTable, LooksUp}
 
 -- the table's verdict that the answer of a walk tells

@@ -8,7 +8,8 @@ use Rattle.frame.specs.Layout.{destination, source, tagged, vlan, tagPlace, num
 use Rattle.frame.specs.Reader.{lengthChecks, ctagChecks, rtagChecks, checks, header}
 use Rattle.streams.specs.declared.Found.{Found}
 use Rattle.streams.specs.declared.Found.the-variants.{Stream, NoStream, Refused}
-use Rattle.streams.specs.Entry.{bodyLength, fields, outOfRange, choiceAllows, allows, addressOf, matches}
+use Rattle.entry.specs.Contents.{bodyLength, fields, outOfRange}
+use Rattle.entry.specs.Matching.{choiceAllows, allows, addressOf, matches}
 use Rattle.streams.specs.Table.{entriesAfter, entries, entryChecks, tableChecks, tableVerdict, firstMatch, lookupOf}
 
 receiver : List ℕ

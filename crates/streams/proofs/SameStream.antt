@@ -16,7 +16,7 @@ use Rattle.tag.specs.RoundTrip.{withNumber, withoutNumber}
 use Rattle.tag.proofs.RoundTrip.{insertable, removable, inserted-reads, removed-reads}
 use Rattle.tag.proofs.Trips.{wrote}
 use Rattle.streams.specs.declared.Found.{Found}
-use Rattle.streams.specs.Entry.{allows, addressOf, matches}
+use Rattle.entry.specs.Matching.{allows, addressOf, matches}
 use Rattle.streams.specs.Table.{entries, firstMatch, lookupOf, walked, LooksUp}
 use Rattle.streams.proofs.Answered.{walk-answers}
 

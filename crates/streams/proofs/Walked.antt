@@ -11,10 +11,11 @@ use Rattle.octets.specs.Checks.{good, refuse, verdict, _then_}
 use Rattle.octets.proofs.Bools.{by-cases}
 use Rattle.octets.proofs.Order.{verdict-append}
 use Rattle.frame.specs.declared.Header.{Header}
-use Rattle.streams.specs.declared.entry.Fields.{Fields}
+use Rattle.entry.specs.declared.Fields.{Fields}
 use Rattle.streams.specs.declared.Found.{Found}
 use Rattle.streams.specs.declared.Found.the-variants.{Stream, NoStream, Refused}
-use Rattle.streams.specs.Entry.{bodyLength, fields, outOfRange, matches}
+use Rattle.entry.specs.Contents.{bodyLength, fields, outOfRange}
+use Rattle.entry.specs.Matching.{matches}
 use Rattle.streams.specs.Table.{entriesAfter, entries, entryChecks, tableChecks, tableVerdict, firstMatch, walked, _orElse_, alone}
 
 -- octets that belong to the entry before are passed over

@@ -9,12 +9,13 @@ use lib.Dec.{leb, ltb, eqb}
 use Rattle.octets.specs.Checks.{Check, _⇒_, Verdict, good, refuse, verdict, _then_}
 use Rattle.frame.specs.declared.Header.{Header}
 use Rattle.frame.specs.Reader.{checks, header}
-use Rattle.streams.specs.declared.entry.Fields.{Fields}
+use Rattle.entry.specs.declared.Fields.{Fields}
 use Rattle.streams.specs.declared.Checked.{Checked}
 use Rattle.streams.specs.declared.Checked.the-variants as Checked
 use Rattle.streams.specs.declared.Found.{Found}
 use Rattle.streams.specs.declared.Found.the-variants.{Stream, NoStream, Refused}
-use Rattle.streams.specs.Entry.{bodyLength, fields, outOfRange, matches}
+use Rattle.entry.specs.Contents.{bodyLength, fields, outOfRange}
+use Rattle.entry.specs.Matching.{matches}
 
 -- "one byte of kind, then a body whose length the kind fixes": the entries of octets whose first `left` ones still belong to the entry
 -- before

@@ -1,11 +1,7 @@
 // "Stream tables" (document 01): the whole table is checked first, in order; then the frame; then the first match gives the handle.
 use crate::Checked;
 use crate::Found;
-use crate::entry::Fields;
-use crate::entry::body_length;
-use crate::entry::fields_of;
-use crate::entry::matches;
-use crate::entry::out_of_range;
+use entry::Fields;
 use frame::Header;
 use frame::Reading;
 ghost use mathlib.Core.Path.{_≡_};
@@ -47,7 +43,7 @@ fn walk(table: &[u8], h: Header) -> Found
         if 256 <= passed {
             return Found::Refused(13);
         }
-        let body = body_length(table[at]);
+        let body = entry::body_length(table[at]);
         if body == 0 {
             return Found::Refused(10);
         }
@@ -55,8 +51,8 @@ fn walk(table: &[u8], h: Header) -> Found
             return Found::Refused(11);
         }
         let end = at + 1 + body;
-        let e = fields_of(&table[at..end]);
-        if out_of_range(e.choice, e.vlan) {
+        let e = entry::fields_of(&table[at..end]);
+        if entry::out_of_range(e.choice, e.vlan) {
             return Found::Refused(12);
         }
         found = past_entry(found, e, h);
@@ -70,7 +66,7 @@ fn walk(table: &[u8], h: Header) -> Found
 fn past_entry(found: Found, e: Fields, h: Header) -> Found
     ensures { λ r. ⌜ r ≡ found orElse alone e h ⌝ }
 {
-    if matches(e, h) {
+    if entry::matches(e, h) {
         first(found, e.handle)
     } else {
         found

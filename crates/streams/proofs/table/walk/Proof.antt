@@ -95,9 +95,6 @@ add-end-2 c = search needs
 sub-fields-of : tie.Need-sub-fields-of Inv-loop μ-loop
 sub-fields-of c = search needs
 
-part-fields-of-start : tie.Need-part-fields-of-start Inv-loop μ-loop
-part-fields-of-start c = search needs
-
 part-fields-of-end : tie.Need-part-fields-of-end Inv-loop μ-loop
 part-fields-of-end c = search needs
 
@@ -124,7 +121,6 @@ walk-spec {M} =
       add-end,
       add-end-2,
       sub-fields-of,
-      part-fields-of-start,
       part-fields-of-end,
       add-passed,
       loop-less,

@@ -1,8 +1,8 @@
--- `streams::entry::body_length` meets its promise, kind by kind. Assumes nothing.
+-- `entry::contents::body_length` meets its promise, kind by kind. Assumes nothing.
 use borrow.Author.Tests.{ne-eqb}
-use Rattle.streams.specs.Entry.{bodyLength}
-use Rattle.streams.proofs.entry.body_length.Statement.{statement}
-use Rattle.streams.proofs.entry.body_length.Tie as tie
+use Rattle.entry.specs.Contents.{bodyLength}
+use Rattle.entry.proofs.contents.body_length.Statement.{statement}
+use Rattle.entry.proofs.contents.body_length.Tie as tie
 
 -- kind 1
 returns : tie.Need-returns

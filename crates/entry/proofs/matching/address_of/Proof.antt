@@ -1,8 +1,8 @@
--- `streams::entry::address_of` meets its promise: the source under kind 2, else the destination. Assumes nothing.
+-- `entry::matching::address_of` meets its promise: the source under kind 2, else the destination. Assumes nothing.
 use borrow.Author.Tests.{ne-eqb}
-use Rattle.streams.specs.Entry.{addressOf}
-use Rattle.streams.proofs.entry.address_of.Statement.{statement}
-use Rattle.streams.proofs.entry.address_of.Tie as tie
+use Rattle.entry.specs.Matching.{addressOf}
+use Rattle.entry.proofs.matching.address_of.Statement.{statement}
+use Rattle.entry.proofs.matching.address_of.Tie as tie
 
 -- kind 2
 returns : tie.Need-returns

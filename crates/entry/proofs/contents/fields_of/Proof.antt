@@ -1,14 +1,14 @@
--- `streams::entry::fields_of` meets its promise, field by field. Assumes nothing.
+-- `entry::contents::fields_of` meets its promise, field by field. Assumes nothing.
 use Prim.Native.Nat.{ℕ}
 use mathlib.Core.Path.{_≡_}
 use mathlib.Core.List.{List}
 use lib.ListN.{getD}
 use borrow.Author.Needs.{needs}
 use Rattle.octets.specs.Number.{be16, be48}
-use Rattle.streams.specs.declared.entry.Fields.{Fields}
-use Rattle.streams.specs.Entry.{fields}
-use Rattle.streams.proofs.entry.fields_of.Statement.{statement}
-use Rattle.streams.proofs.entry.fields_of.Tie as tie
+use Rattle.entry.specs.declared.Fields.{Fields}
+use Rattle.entry.specs.Contents.{fields}
+use Rattle.entry.proofs.contents.fields_of.Statement.{statement}
+use Rattle.entry.proofs.contents.fields_of.Tie as tie
 
 each : (e : List ℕ) {kind address choice vlan handle : ℕ}
     → kind ≡ getD e 0 0 → address ≡ be48 e 1 → choice ≡ getD e 7 0 → vlan ≡ be16 e 8 → handle ≡ be16 e 10

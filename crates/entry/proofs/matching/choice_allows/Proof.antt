@@ -1,9 +1,9 @@
--- `streams::entry::choice_allows` meets its promise, choice by choice. Assumes nothing.
+-- `entry::matching::choice_allows` meets its promise, choice by choice. Assumes nothing.
 use mathlib.Core.Bool.{or-false}
 use borrow.Author.Tests.{ne-eqb}
-use Rattle.streams.specs.Entry.{choiceAllows}
-use Rattle.streams.proofs.entry.choice_allows.Statement.{statement}
-use Rattle.streams.proofs.entry.choice_allows.Tie as tie
+use Rattle.entry.specs.Matching.{choiceAllows}
+use Rattle.entry.proofs.matching.choice_allows.Statement.{statement}
+use Rattle.entry.proofs.matching.choice_allows.Tie as tie
 
 -- tagged
 returns : tie.Need-returns

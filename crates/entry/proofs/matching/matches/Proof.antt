@@ -1,8 +1,8 @@
--- `streams::entry::matches` meets its promise: the test of every kind, with the address that the kind asks for. Assumes nothing.
+-- `entry::matching::matches` meets its promise: the test of every kind, with the address that the kind asks for. Assumes nothing.
 use borrow.Author.Needs.{needs}
-use Rattle.streams.specs.Entry.{matches}
-use Rattle.streams.proofs.entry.matches.Statement.{statement}
-use Rattle.streams.proofs.entry.matches.Tie as tie
+use Rattle.entry.specs.Matching.{matches}
+use Rattle.entry.proofs.matching.matches.Statement.{statement}
+use Rattle.entry.proofs.matching.matches.Tie as tie
 
 -- as `allows` answers for that address
 returns : tie.Need-returns

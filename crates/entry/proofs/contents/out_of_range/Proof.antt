@@ -1,10 +1,10 @@
--- `streams::entry::out_of_range` meets its promise: the choice is tested first, then the VLAN. Assumes nothing.
+-- `entry::contents::out_of_range` meets its promise: the choice is tested first, then the VLAN. Assumes nothing.
 use native.Mathlib.Omega.{arith}
 use mathlib.Core.Bool.{or-true}
 use borrow.Author.Tests.{lt-ltb, le-ltb}
-use Rattle.streams.specs.Entry.{outOfRange}
-use Rattle.streams.proofs.entry.out_of_range.Statement.{statement}
-use Rattle.streams.proofs.entry.out_of_range.Tie as tie
+use Rattle.entry.specs.Contents.{outOfRange}
+use Rattle.entry.proofs.contents.out_of_range.Statement.{statement}
+use Rattle.entry.proofs.contents.out_of_range.Tie as tie
 
 -- a choice from 1 to 3: the VLAN decides
 returns : tie.Need-returns

@@ -1,10 +1,10 @@
--- `streams::entry::allows` meets its promise: the address, then the choice, then the VLAN. Assumes nothing.
+-- `entry::matching::allows` meets its promise: the address, then the choice, then the VLAN. Assumes nothing.
 use mathlib.Core.Path.{_∙_, sym}
 use borrow.Author.Needs.{needs}
 use borrow.Author.Tests.{eq-eqb, ne-eqb}
-use Rattle.streams.specs.Entry.{allows}
-use Rattle.streams.proofs.entry.allows.Statement.{statement}
-use Rattle.streams.proofs.entry.allows.Tie as tie
+use Rattle.entry.specs.Matching.{allows}
+use Rattle.entry.proofs.matching.allows.Statement.{statement}
+use Rattle.entry.proofs.matching.allows.Tie as tie
 
 -- another address
 returns : tie.Need-returns
