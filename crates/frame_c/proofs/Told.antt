@@ -1,6 +1,6 @@
 -- From a promise of the rooms to the promise of its call for C: the answer as a number, and what is lent afterwards. Assumes nothing.
 use Prim.Native.Nat.{ℕ}
-use mathlib.Core.Path.{_≡_, refl, ap, _∙_}
+use mathlib.Core.Path.{_≡_, refl, _∙_}
 use mathlib.Core.Bool.{Bool, cond}
 use mathlib.Core.List.{List}
 use Rattle.octets.specs.Copy.{Puts}
@@ -9,9 +9,8 @@ use Rattle.frame.specs.declared.Header.{Header}
 use Rattle.frame.specs.declared.Reading.{Reading}
 use Rattle.frame.specs.declared.Reading.the-variants as reading
 use Rattle.tag.specs.declared.Written.{Written}
-use Rattle.tag.specs.declared.Written.the-variants as written
 use Rattle.tag.specs.Output.{Writes}
-use Rattle.frame_c.specs.Frames.{headerWords, Records, WritesTo}
+use Rattle.frame_c.specs.Frames.{headerWords, Records, WritesTo, Tells}
 
 -- a header put into a record, or no room for it
 pub room-told : {h : Header} {filled out later : List ℕ} {fitted : Bool} {r : ℕ} → Puts filled out fitted later → filled ≡ headerWords h
@@ -23,17 +22,7 @@ pub refusal-told : {rd : Reading} {out : List ℕ} {n : ℕ} → reading.Refused
 refusal-told e = rw (← e) (record { answer = refl; words = refl })
 
 -- what an insertion or a removal answered
-abbrev ofWritten : Written → ℕ
-ofWritten (written.Length n) = 0
-ofWritten (written.Refused n) = n
-
-abbrev lengthAfter : Written → ℕ → ℕ
-lengthAfter (written.Length n) before = n
-lengthAfter (written.Refused k) before = before
-
-pub written-told : (v : Verdict) {result out : List ℕ} {before : ℕ} (w : Written) {later : List ℕ} → Writes v result out w later
-    → WritesTo v result out before (ofWritten w) later (lengthAfter w before)
-written-told good {before = before} w p =
-    record { answer = ap ofWritten (p .answer); buffer = p .buffer; told = ap (λ (x : Written). lengthAfter x before) (p .answer) }
-written-told (refuse k) {before = before} w p =
-    record { answer = ap ofWritten (p .answer); buffer = p .buffer; told = ap (λ (x : Written). lengthAfter x before) (p .answer) }
+pub written-told : (v : Verdict) {result out : List ℕ} {before r after : ℕ} {w : Written} {later : List ℕ}
+    → Writes v result out w later → Tells w before r after → WritesTo v result out before r later after
+written-told good p t = record { answer = t .answer ∙ rw (p .answer); buffer = p .buffer; told = t .told ∙ rw (p .answer) }
+written-told (refuse k) p t = record { answer = t .answer ∙ rw (p .answer); buffer = p .buffer; told = t .told ∙ rw (p .answer) }

@@ -13,6 +13,8 @@ use Rattle.frame.specs.declared.Reading.{Reading}
 use Rattle.frame.specs.declared.Reading.the-variants.{Frame, Refused}
 use Rattle.frame.specs.Reader.{reading}
 use Rattle.frame.specs.Part.{payloadBy}
+use Rattle.tag.specs.declared.Written.{Written}
+use Rattle.tag.specs.declared.Written.the-variants as written
 use Rattle.tag.specs.Output.{outputBy}
 use Rattle.tag.specs.Insertion.{inserted, insertChecks}
 use Rattle.tag.specs.Removal.{removed, removeChecks}
@@ -64,6 +66,19 @@ pub record WritesTo (v : Verdict) (result out : List ℕ) (before r : ℕ) (late
   pub answer : r ≡ refusal v
   pub buffer : later ≡ outputBy v result out
   pub told : after ≡ lengthBy v (length result) before
+
+-- what `tell` promises them: the room's answer as a number, with the length beside it
+abbrev pub answerOf : Written → ℕ
+answerOf (written.Length n) = 0
+answerOf (written.Refused n) = n
+
+abbrev pub lengthOf : Written → ℕ → ℕ
+lengthOf (written.Length n) before = n
+lengthOf (written.Refused k) before = before
+
+pub record Tells (w : Written) (before r after : ℕ) : Type 0 where
+  pub answer : r ≡ answerOf w
+  pub told : after ≡ lengthOf w before
 
 -- of `ahz_insert` and `ahz_remove`
 abbrev pub InsertsTo : List ℕ → ℕ → List ℕ → ℕ → ℕ → List ℕ → ℕ → Type 0

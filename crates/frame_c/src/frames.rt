@@ -3,7 +3,7 @@ use frame::Header;
 use frame::Reading;
 use tag::Written;
 ghost use Rattle.frame.specs.declared.Reading.the-variants.{Frame};
-ghost use Rattle.frame_c.specs.Frames.{Records, ReadsTo, PayloadOctets, InsertsTo, RemovesTo};
+ghost use Rattle.frame_c.specs.Frames.{Records, ReadsTo, PayloadOctets, InsertsTo, RemovesTo, Tells};
 
 // The header of a frame, in eight words.
 #[no_mangle]
@@ -46,13 +46,7 @@ pub extern "C" fn ahz_payload(frame: &[u8]) -> usize
 pub extern "C" fn ahz_insert(frame: &[u8], number: u16, out: &mut [u8], length: &mut usize) -> u8
     ensures { λ r. ⌜ InsertsTo (now (frame .entry)) number (now (out .entry)) (now (length .entry)) r (now (out .exit)) (now (length .exit)) ⌝ }
 {
-    match tag::insert(frame, number, out) {
-        Written::Length(n) => {
-            *length = n;
-            0
-        }
-        Written::Refused(no) => no,
-    }
+    tell(tag::insert(frame, number, out), length)
 }
 
 // The frame without its R-TAG, written to `out`, and its length.
@@ -60,11 +54,18 @@ pub extern "C" fn ahz_insert(frame: &[u8], number: u16, out: &mut [u8], length: 
 pub extern "C" fn ahz_remove(frame: &[u8], out: &mut [u8], length: &mut usize) -> u8
     ensures { λ r. ⌜ RemovesTo (now (frame .entry)) (now (out .entry)) (now (length .entry)) r (now (out .exit)) (now (length .exit)) ⌝ }
 {
-    match tag::remove(frame, out) {
-        Written::Length(left) => {
-            *length = left;
+    tell(tag::remove(frame, out), length)
+}
+
+// The length of what was written, and 0; or the refusal.
+fn tell(written: Written, length: &mut usize) -> u8
+    ensures { λ r. ⌜ Tells written (now (length .entry)) r (now (length .exit)) ⌝ }
+{
+    match written {
+        Written::Length(n) => {
+            *length = n;
             0
         }
-        Written::Refused(no) => no,
+        Written::Refused(number) => number,
     }
 }

@@ -9,7 +9,7 @@ use crate::Line;
 const WORDS: [u8; 140] =
     *b"ok\npass\ndiscard\ntick\nreset\nlatent reset\nlatent ok\nlatent error\nfault \npassed= discarded= order= rogue= lost= tagless= resets= latent-resets=";
 
-const ENDS: [usize; 19] = [
+const ENDS: [u8; 19] = [
     0,
     3,
     8,
@@ -66,5 +66,5 @@ pub fn word(i: usize, page: &mut [u8], at: usize) -> usize
     requires { ⌜ at + length (wordAt i) ≤ length (now page) ⌝ }
     ensures { λ r. ⌜ Appends (wordAt i) (now (page .entry)) at r (now (page .exit)) ⌝ }
 {
-    append(&WORDS[ENDS[i]..ENDS[i + 1]], page, at)
+    append(&WORDS[ENDS[i] as usize..ENDS[i + 1] as usize], page, at)
 }

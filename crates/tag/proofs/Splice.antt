@@ -1,11 +1,12 @@
 -- Octets with a tag put in or taken off at a place: their number, and what stands where. Assumes nothing.
 use Prim.Native.Nat.{ℕ, _+_, _-_, _≤_, _<_}
 use native.Mathlib.Omega.{arith}
-use mathlib.Core.Path.{_≡_, sym, _∙_, ap}
-use mathlib.Core.Bool.{Bool}
+use mathlib.Core.Path.{_≡_, refl, sym, _∙_, ap}
+use mathlib.Core.Bool.{Bool, true}
 use mathlib.Core.List.{List, _++_, append-assoc}
 use lib.ListN.{length, getD, take, drop, length-append, length-drop, take-append-drop, List·getD-append}
 use lib.Seq.{length-take-le, take-at, drop-at, drop-drop, getD-append-add, getD-take, getD-drop}
+use borrow.Author.Tests.{le-leb}
 use Rattle.octets.specs.Number.{be16}
 use Rattle.octets.specs.Copy.{putIn, Puts}
 use borrow.Rule.Slice.PartMut.{putMid, midOf}
@@ -95,39 +96,40 @@ module _ (o : List ℕ) (at n : ℕ) (w : at ≤ length o) where
       let three : at + 2 + 1 ≡ at + 3 = omega arith in
       rw three (omega (arith, in-tag 2 (omega arith), in-tag 3 (omega arith)))
 
--- three copies in a row, each into the part of the output behind what was put before: the octets before the tag's place, the tag, and the
--- octets behind it
-pub put-with : (o out : List ℕ) (at n : ℕ) → at ≤ length o → length o + 6 ≤ length out
-    → {t front middle back : List ℕ} {r r′ r″ : Bool} → t ≡ tag n
-    → Puts (take at o) out r front
-    → Puts t (midOf at (length front - at) front) r′ middle
-    → let w = putMid at (length front - at) front middle in
-    Puts (take (length o - at) (drop at o)) (midOf (at + 6) (length w - (at + 6)) w) r″ back
-    → putMid (at + 6) (length w - (at + 6)) w back ≡ putIn (insertedAt o at n) out
-unfolding insertedAt tag
-put-with o out at n within room e p q s =
-    let l = length-take-le at o within in
-    let six : at + 6 ≡ length (take at o ++ tag n) = simp (length-append, l) in
-    put-next (take at o ++ tag n) (drop at o) out
-    (put-next (take at o) (tag n) out (put-first (omega (arith, l)) p) (sym l) (omega (arith, l)) (rw e at q))
-    six
-    (omega (arith, six, length-drop at o))
-    (rw (to-end at o) at s)
-    ∙ simp append-assoc
+-- the tag and the octets behind it, one after the other, are put as one copy would put them
+pub put-tagged : (rest out : List ℕ) (n : ℕ) → length rest + 6 ≤ length out
+    → {t front back : List ℕ} {r r′ : Bool} → t ≡ tag n → Puts t out r front
+    → Puts rest (midOf 6 (length front - 6) front) r′ back
+    → Puts (tag n ++ rest) out true (putMid 6 (length front - 6) front back)
+unfolding tag
+put-tagged rest out n room e p q =
+    let fits : length (tag n ++ rest) ≤ length out = omega arith in
+    let whole = put-next (tag n) rest out (put-first (omega arith) (rw e at p)) refl (omega arith) q in
+    record { answer = sym (le-leb _ _ fits); buffer = simp (le-leb _ _ fits, whole) }
 
--- two copies in a row: the octets before the tag, and those behind it
+-- two copies in a row: the octets before a place, and others behind them
+put-two : (o others out : List ℕ) (at : ℕ) → at ≤ length o → at + length others ≤ length out
+    → {front back : List ℕ} {r r′ : Bool} → Puts (take at o) out r front → Puts others (midOf at (length front - at) front) r′ back
+    → putMid at (length front - at) front back ≡ putIn (take at o ++ others) out
+put-two o others out at within room p q =
+    let l = length-take-le at o within in
+    put-next (take at o) others out (put-first (omega (arith, l)) p) (sym l) (omega (arith, l)) q
+
+pub put-with : (o out : List ℕ) (at n : ℕ) → at ≤ length o → length o + 6 ≤ length out
+    → {front back : List ℕ} {r r′ : Bool} → Puts (take at o) out r front
+    → Puts (tag n ++ take (length o - at) (drop at o)) (midOf at (length front - at) front) r′ back
+    → putMid at (length front - at) front back ≡ putIn (insertedAt o at n) out
+unfolding insertedAt tag
+put-with o out at n within room p q =
+    put-two o (tag n ++ drop at o) out at within (omega (arith, length-drop at o)) p (rw (to-end at o) at q)
+
 pub put-without : (o out : List ℕ) (at : ℕ) → at + 6 ≤ length o → length o ≤ length out + 6
     → {front back : List ℕ} {r r′ : Bool} → Puts (take at o) out r front
     → Puts (take (length o - (at + 6)) (drop (at + 6) o)) (midOf at (length front - at) front) r′ back
     → putMid at (length front - at) front back ≡ putIn (removedAt o at) out
 unfolding removedAt
 put-without o out at within room p q =
-    let l = length-take-le at o (omega arith) in
-    put-next (take at o) (drop (at + 6) o) out
-    (put-first (omega (arith, l)) p)
-    (sym l)
-    (omega (arith, l, length-drop (at + 6) o))
-    (rw (to-end (at + 6) o) at q)
+    put-two o (drop (at + 6) o) out at (omega arith) (omega (arith, length-drop (at + 6) o)) p (rw (to-end (at + 6) o) at q)
 
 -- put in, then taken off
 pub put-off : (o : List ℕ) (at n : ℕ) → at ≤ length o → removedAt (insertedAt o at n) at ≡ o

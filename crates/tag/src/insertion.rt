@@ -3,8 +3,10 @@ use crate::Written;
 use frame::Reading;
 ghost use mathlib.Core.Path.{_≡_};
 ghost use Prim.Native.Nat.{_+_, _≤_};
+ghost use mathlib.Core.Bool.{true};
+ghost use mathlib.Core.List.{_++_};
 ghost use lib.ListN.{length};
-ghost use Rattle.octets.specs.Copy.{putIn};
+ghost use Rattle.octets.specs.Copy.{putIn, Puts};
 ghost use Rattle.frame.specs.Layout.{tag};
 ghost use Rattle.tag.specs.Insertion.{Inserts, insertedAt};
 
@@ -31,15 +33,22 @@ pub fn insert(frame: &[u8], number: u16, out: &mut [u8]) -> Written
     }
 }
 
-// The octets before the tag's place, the tag, and the octets behind it.
+// The octets before the tag's place, and then the tag with those behind it.
 fn write_with(frame: &[u8], at: usize, number: u16, out: &mut [u8])
     requires { ⌜ (at ≤ length (now frame)) × (length (now frame) + 6 ≤ length (now out)) ⌝ }
     ensures { λ _. ⌜ now (out .exit) ≡ putIn (insertedAt (now (frame .entry)) at number) (now (out .entry)) ⌝ }
 {
-    let behind = at + 6;
     octets::put(&frame[..at], out);
-    octets::put(&r_tag(number), &mut out[at..]);
-    octets::put(&frame[at..], &mut out[behind..]);
+    write_tagged(&frame[at..], number, &mut out[at..]);
+}
+
+// The tag and the octets behind it, as one copy would put them.
+fn write_tagged(rest: &[u8], number: u16, out: &mut [u8])
+    requires { ⌜ length (now rest) + 6 ≤ length (now out) ⌝ }
+    ensures { λ _. ⌜ Puts (tag number ++ now (rest .entry)) (now (out .entry)) true (now (out .exit)) ⌝ }
+{
+    octets::put(&r_tag(number), out);
+    octets::put(rest, &mut out[6..]);
 }
 
 // An R-TAG's six octets: F1 C1, the reserved two, the number.

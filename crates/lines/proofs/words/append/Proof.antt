@@ -9,9 +9,6 @@ use Rattle.lines.proofs.words.append.Tie as tie
 sub-put : tie.Need-sub-put
 sub-put c = search needs
 
-part-put-start : tie.Need-part-put-start
-part-put-start c = search needs
-
 part-put-end : tie.Need-part-put-end
 part-put-end c = search needs
 
@@ -28,4 +25,4 @@ returns c =
     appended (a .part .now) (a .page .now) (a .at) (omega arith) put
 
 pub append-spec : {M : Type 1} → statement M
-append-spec = tie.close (search (tie.spec, sub-put, part-put-start, part-put-end, add-result, same-length, returns, needs))
+append-spec = tie.close (search (tie.spec, sub-put, part-put-end, add-result, same-length, returns, needs))

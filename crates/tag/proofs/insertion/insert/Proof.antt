@@ -29,6 +29,10 @@ tag-within : (c : tie.Else1)
 tag-within c =
     let e = header-read (c .before .before) in (omega (arith, place-without _ e (c .if1 .left)), starts-within _ e)
 
+-- and the result within the output
+write-with-requires : tie.Need-write-with-requires
+write-with-requires c κs = let room = c .before .before in (omega (arith, tag-within (room .before .before) .1), omega arith)
+
 -- an R-TAG is there
 returns : tie.Need-returns
 returns c = insert-there _ _ _ (header-read (c .before .before)) (c .if1 .taken)
@@ -60,9 +64,6 @@ add-n c = search needs
 
 sub-write-with : tie.Need-sub-write-with
 sub-write-with c = let room = c .before in tag-within (room .before .before) .0
-
-write-with-requires : tie.Need-write-with-requires
-write-with-requires c κs = let room = c .before .before in (omega (arith, tag-within (room .before .before) .1), omega arith)
 
 enum-known-no : tie.Need-enum-known-no
 enum-known-no c = search needs
