@@ -61,26 +61,18 @@ pub fn fault(number: u8, page: &mut [u8], at: usize) -> usize
     }
 }
 
-// The eight counters.
-fn count_all(counters: [u64; 8], page: &mut [u8], at: usize) -> usize
-    requires { ⌜ at + longest ≤ length (now page) ⌝ }
-    ensures { λ r. ⌜ AppendsWithin longest (countersText counters) (now (page .entry)) at r (now (page .exit)) ⌝ }
-{
-    let mut behind = at;
-    let mut i = 0;
-    while i < 8 {
-        behind = count(LABELS + i, counters[i], page, behind);
-        i += 1;
-    }
-    word(NEWLINE, page, behind)
-}
-
-// The last line of a tape without a fault.
+// The last line of a tape without a fault: the eight counters, each behind its label.
 pub fn counts(counters: [u64; 8], page: &mut [u8], at: usize) -> usize
     ensures { λ r. ⌜ Writes (countersText counters) (now (page .entry)) at r (now (page .exit)) ⌝ }
 {
     if has_room(page.len(), at) {
-        count_all(counters, page, at)
+        let mut end = at;
+        let mut i = 0;
+        while i < 8 {
+            end = count(LABELS + i, counters[i], page, end);
+            i += 1;
+        }
+        word(NEWLINE, page, end)
     } else {
         at
     }

@@ -67,6 +67,6 @@ rows =
 as-listed : map (λ (x : Row). lookupOf (x .table) (x .frame)) rows ≡ map (λ (x : Row). x .answer) rows
 unfolding rows row entry plain inVlan short receiver sender
     lookupOf tableVerdict tableChecks entryChecks entries entriesAfter bodyLength fields outOfRange firstMatch
-    matches allows choiceAllows addressOf verdict _then_ be16 be32 be48 checks lengthChecks ctagChecks rtagChecks header destination source tagged vlan tagPlace numbered
-    number numberAt kindPlace kind payloadPlace
+    matches allows choiceAllows addressOf verdict _then_ be16 be32 be48 checks lengthChecks ctagChecks rtagChecks
+    header destination source tagged vlan tagPlace numbered number numberAt kindPlace kind payloadPlace
 as-listed = refl
