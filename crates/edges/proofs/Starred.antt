@@ -18,11 +18,11 @@ use Rattle.recovery.specs.declared.State.{State}
 use Rattle.recovery.specs.declared.Packet.the-variants.{Numbered}
 use Rattle.recovery.specs.declared.Verdict.{Verdict}
 use Rattle.recovery.specs.declared.Verdict.the-variants.{Pass, Discard}
-use Rattle.recovery.specs.Counting.{plus}
+use Rattle.counters.specs.Counting.{plus, counted}
 use Rattle.recovery.specs.Soundness.{awaits, sound}
 use Rattle.recovery.specs.Resets.{freshState}
 use Rattle.recovery.specs.Timer.{restarted}
-use Rattle.recovery.specs.Packets.{numbered, counted, settled, heard, packetOf}
+use Rattle.recovery.specs.Packets.{numbered, settled, heard, packetOf}
 
 -- what is asked: packets from a fresh state, by rule (0 vector, 1 match) and history length; ticks of milliseconds at ticks per second;
 -- the octets of an R-TAG

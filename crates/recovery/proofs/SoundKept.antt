@@ -12,7 +12,7 @@ use Rattle.setup.specs.Range.{checked, isVector, fullOf}
 use Rattle.setup.proofs.InRange.{in-range, full-positive}
 use Rattle.marks.specs.Window.{most, mark, clearFrom, none}
 use Rattle.marks.proofs.Moves.{none-from}
-use Rattle.recovery.specs.declared.Counters.{Counters}
+use Rattle.counters.specs.declared.Counters.{Counters}
 use Rattle.recovery.specs.declared.State.{State}
 use Rattle.recovery.specs.declared.Packet.{Packet}
 use Rattle.recovery.specs.declared.Packet.the-variants.{Numbered, Tagless}

@@ -3,11 +3,9 @@ use Prim.Native.Nat.{_≤_}
 use mathlib.Core.Path.{_≡_}
 use mathlib.Core.Bool.{true, _||_}
 use lib.Dec.{leb, eqb}
-use native.Mathlib.Omega.{arith}
 use borrow.Author.Tests.{leb-true, eqb-true, le-leb, eq-eqb}
 use Rattle.octets.proofs.Bools.{both, and-true}
 use Rattle.setup.specs.Range.{checked, isVector, fullOf}
-use Rattle.setup.proofs.InRange.{in-range}
 use Rattle.marks.specs.Window.{clearFrom}
 use Rattle.recovery.specs.declared.State.{State}
 use Rattle.recovery.specs.Soundness.{awaits, sound}
@@ -44,7 +42,3 @@ sound-by s p =
     (p .awaits-rightly))
     (p .match-bare))
     (le-leb _ _ (p .left-below))
-
--- a sound state has a path to compare
-pub some-paths : (s : State) → sound s ≡ true → 1 ≤ s .setup .paths
-some-paths s e = omega (arith, in-range (s .setup) (sound-says s e .in-range) .paths)

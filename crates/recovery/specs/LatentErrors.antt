@@ -1,47 +1,17 @@
--- The latent error test (document 01, "Numbering and recovery"). "modulo 2^64, signed": a number stands for the signed one that it is the
--- remainder of, and from 2^63 on it is negative. Assumes nothing.
-use Prim.Native.Nat.{ℕ, _+_, _-_, _*_, _%_, _^_}
+-- The latent reset and the latent test of a state (document 01, "Numbering and recovery"). Assumes nothing.
 use mathlib.Core.Path.{_≡_}
 use mathlib.Core.Bool.{Bool, cond}
-use lib.Dec.{ltb}
-use Rattle.recovery.specs.declared.Counters.{Counters}
+use Rattle.counters.specs.LatentErrors.{figure, exceeds, latentCounted}
 use Rattle.recovery.specs.declared.State.{State}
 use Rattle.recovery.specs.declared.Changed.{Changed}
 use Rattle.recovery.specs.declared.Change.the-variants as change
 use Rattle.recovery.specs.declared.Latent.{Latent}
 use Rattle.recovery.specs.declared.Latent.the-variants as latent
-use Rattle.recovery.specs.Counting.{plus}
 use Rattle.recovery.specs.Soundness.{sound}
-
--- a - b "modulo 2^64", of b below that
-unfoldable pub less : ℕ → ℕ → ℕ
-less a b = (a + (2 ^ 64 - b)) % 2 ^ 64
-
--- "the absolute value" of the signed number
-unfoldable pub absolute : ℕ → ℕ
-absolute n = cond (ltb n (2 ^ 63)) n (2 ^ 64 - n)
-
--- "Latent figure = passed x (paths - 1) - discarded modulo 2^64, signed"
-unfoldable pub figure : Counters → ℕ → ℕ
-figure k paths = less (k .passed * (paths - 1)) (k .discarded)
 
 -- "Latent test: error exactly if the absolute value of (base - figure, modulo 2^64, signed) exceeds the difference"
 unfoldable pub latentError : State → Bool
-latentError s = ltb (s .setup .difference) (absolute (less (s .base) (figure (s .counters) (s .setup .paths))))
-
--- "latent-resets +1"
-unfoldable pub latentCounted : Counters → Counters
-latentCounted k =
-    record {
-      passed = k .passed;
-      discarded = k .discarded;
-      order = k .order;
-      rogue = k .rogue;
-      lost = k .lost;
-      tagless = k .tagless;
-      resets = k .resets;
-      «latent_resets» = plus (k .«latent_resets») 1;
-    }
+latentError s = exceeds (s .base) (s .counters) (s .setup .paths) (s .setup .difference)
 
 -- "Latent reset: base = figure, latent-resets +1"
 unfoldable pub rebased : State → State

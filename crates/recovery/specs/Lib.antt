@@ -1,4 +1,3 @@
-pub mod Counting
 pub mod Soundness
 pub mod Resets
 pub mod Timer

@@ -1,4 +1,4 @@
--- A packet by its rule, its counts, and the next state (document 01, "Numbering and recovery"). Assumes nothing.
+-- A packet by its rule, and the next state (document 01, "Numbering and recovery"). Assumes nothing.
 use Prim.Native.Nat.{ℕ}
 use mathlib.Core.Path.{_≡_}
 use mathlib.Core.Bool.{Bool, false, cond}
@@ -8,13 +8,12 @@ use Rattle.rules.specs.NoNumber.{unnumbered}
 use Rattle.rules.specs.TakeAny.{first}
 use Rattle.rules.specs.Vector.{vector}
 use Rattle.rules.specs.Matching.{match}
-use Rattle.recovery.specs.declared.Counters.{Counters}
+use Rattle.counters.specs.Counting.{counted}
 use Rattle.recovery.specs.declared.State.{State}
 use Rattle.recovery.specs.declared.Packet.{Packet}
 use Rattle.recovery.specs.declared.Packet.the-variants.{Numbered, Tagless}
 use Rattle.recovery.specs.declared.Heard.{Heard}
 use Rattle.recovery.specs.declared.Verdict.the-variants.{Pass, Discard, Refused}
-use Rattle.recovery.specs.Counting.{plus}
 use Rattle.recovery.specs.Soundness.{sound}
 use Rattle.recovery.specs.Timer.{restarted}
 
@@ -26,20 +25,6 @@ numbered s number =
     (cond (isVector (s .setup))
     (vector (s .setup .history) (s .newest) (s .marks) number)
     (match (s .newest) (s .marks) number))
-
--- "Passed and discarded add 1 to their counters", a rogue to both its own and discarded; "No number: tagless +1"
-unfoldable pub counted : Counters → ℕ → Effect → Counters
-counted k tagless effect =
-    record {
-      passed = plus (k .passed) (cond (effect .passes) 1 0);
-      discarded = plus (k .discarded) (cond (effect .passes) 0 1);
-      order = plus (k .order) (effect .order);
-      rogue = plus (k .rogue) (effect .rogue);
-      lost = plus (k .lost) (effect .lost);
-      tagless = plus (k .tagless) tagless;
-      resets = k .resets;
-      «latent_resets» = k .«latent_resets»;
-    }
 
 -- the verdict and the whole next state, of the state, its next take-any, how many packets had no number, and what the packet does
 unfoldable pub settled : State → Bool → ℕ → Effect → Heard

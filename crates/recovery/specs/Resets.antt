@@ -6,13 +6,13 @@ use lib.Dec.{eqb}
 use Rattle.setup.specs.declared.Setup.{Setup}
 use Rattle.setup.specs.Range.{checked}
 use Rattle.marks.specs.Window.{none}
-use Rattle.recovery.specs.declared.Counters.{Counters}
+use Rattle.counters.specs.declared.Counters.{Counters}
+use Rattle.counters.specs.Counting.{noCounts, resetCounted}
 use Rattle.recovery.specs.declared.State.{State}
 use Rattle.recovery.specs.declared.Begun.{Begun}
 use Rattle.recovery.specs.declared.Begun.the-variants as begun
 use Rattle.recovery.specs.declared.Changed.{Changed}
 use Rattle.recovery.specs.declared.Change.the-variants as change
-use Rattle.recovery.specs.Counting.{plus}
 use Rattle.recovery.specs.Soundness.{sound}
 
 -- "newest 65,535, marks clear, take-any, ticks 0"; the counters and the base are given
@@ -28,20 +28,6 @@ cleared setup counters base =
       base = base;
     }
 
--- "counters 0"
-abbrev pub noCounts : Counters
-noCounts =
-    record {
-      passed = 0;
-      discarded = 0;
-      order = 0;
-      rogue = 0;
-      lost = 0;
-      tagless = 0;
-      resets = 0;
-      «latent_resets» = 0;
-    }
-
 -- "Fresh: .. base 0, counters 0": "a fresh state counts no reset"
 unfoldable pub freshState : Setup → State
 freshState setup = cleared setup noCounts 0
@@ -49,20 +35,6 @@ freshState setup = cleared setup noCounts 0
 -- "A setup is checked .. wherever it is handed in by itself": a fresh state from a setup
 unfoldable pub begunFrom : Setup → Begun
 begunFrom setup = cond (eqb (checked setup) 0) (begun.Ready (freshState setup)) (begun.Refused (checked setup))
-
--- "adds 1 to resets"
-unfoldable pub resetCounted : Counters → Counters
-resetCounted k =
-    record {
-      passed = k .passed;
-      discarded = k .discarded;
-      order = k .order;
-      rogue = k .rogue;
-      lost = k .lost;
-      tagless = k .tagless;
-      resets = plus (k .resets) 1;
-      «latent_resets» = k .«latent_resets»;
-    }
 
 -- "A reset gives the same but keeps counters, base and setup, and adds 1 to resets"
 unfoldable pub resetState : State → State

@@ -1,6 +1,6 @@
 -- A span, and what the third demand says of it: "Under the vector rule, from a fresh start or a reset (a timeout is one, a latent reset is
 -- not) to the next". Each of its steps is one call, of which only that call's promise is known. Assumes nothing.
-use Prim.Native.Nat.{ℕ, _+_, _%_, _^_, _<_}
+use Prim.Native.Nat.{ℕ, _+_, _<_}
 use mathlib.Core.Path.{_≡_}
 use mathlib.Core.Bool.{cond}
 use mathlib.Core.List.{List, [], _∷_}
@@ -22,6 +22,7 @@ use Rattle.recovery.specs.Resets.{Begins, Resets}
 use Rattle.recovery.specs.Packets.{Hears}
 use Rattle.recovery.specs.Timer.{Times}
 use Rattle.recovery.specs.LatentErrors.{LatentResets, LatentTests}
+use Rattle.counters.specs.Growth.{Grown}
 use Rattle.rules.specs.Places.{passes, passed, window, movedOn, lost, stillOpen}
 
 -- the state that a fresh start, a reset or a timeout hands back
@@ -59,10 +60,6 @@ unfoldable pub taken : Setup → List Packet → ℕ
 taken setup [] = 0
 taken setup (Numbered number ∷ older) = taken setup older
 taken setup (Tagless ∷ older) = taken setup older + cond (eqb (setup .taken) 1) 1 0
-
--- "stored passed and lost grow by these counts modulo 2^64": a counter has grown by n
-abbrev pub Grown : ℕ → ℕ → ℕ → Type 0
-Grown before n now = now % 2 ^ 64 ≡ (before + n) % 2 ^ 64
 
 -- The demand of the state after the packets, with `places` those that the places' rule lets pass: the next numbered packet gets the verdict
 -- that the places say, whatever it is; passed has grown by the places passed and the packets taken without a number, and lost by the

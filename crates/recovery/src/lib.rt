@@ -7,21 +7,10 @@ mod resets;
 mod soundness;
 mod timer;
 
+use counters::Counters;
 use marks::Marks;
 use setup::Setup;
 use setup::Ticks;
-
-// They wrap.
-pub struct Counters {
-    pub passed: u64,
-    pub discarded: u64,
-    pub order: u64,
-    pub rogue: u64,
-    pub lost: u64,
-    pub tagless: u64,
-    pub resets: u64,
-    pub latent_resets: u64,
-}
 
 pub struct State {
     pub setup: Setup,

@@ -1,14 +1,14 @@
-// A packet by its rule, its counts, and the next state.
+// A packet by its rule, and the next state.
 ghost use mathlib.Core.Path.{_≡_};
 ghost use mathlib.Core.Bool.{cond};
 ghost use Rattle.recovery.specs.declared.Verdict.the-variants.{Pass, Discard};
-ghost use Rattle.recovery.specs.Packets.{numbered, counted, settled, Hears};
-use crate::Counters;
+ghost use Rattle.recovery.specs.Packets.{numbered, settled, Hears};
 use crate::Heard;
 use crate::Packet;
 use crate::State;
 use crate::Verdict;
 use crate::timer;
+use counters::Counters;
 use marks::Marks;
 use rules::Effect;
 use setup::Setup;
@@ -21,23 +21,6 @@ fn verdict_of(passes: bool) -> Verdict
         Verdict::Pass
     } else {
         Verdict::Discard
-    }
-}
-
-// Every count of a packet in one place: passed and discarded add 1 to their counters, a rogue's discard too.
-fn count(k: Counters, tagless: u64, e: Effect) -> Counters
-    ensures { λ r. ⌜ r ≡ counted k tagless e ⌝ }
-{
-    let discarded = std::num::wrapping_add_u64(k.discarded, !e.passes as u64);
-    Counters {
-        passed: std::num::wrapping_add_u64(k.passed, e.passes as u64),
-        discarded,
-        order: std::num::wrapping_add_u64(k.order, e.order),
-        rogue: std::num::wrapping_add_u64(k.rogue, e.rogue),
-        lost: std::num::wrapping_add_u64(k.lost, e.lost),
-        tagless: std::num::wrapping_add_u64(k.tagless, tagless),
-        resets: k.resets,
-        latent_resets: k.latent_resets,
     }
 }
 
@@ -65,7 +48,7 @@ impl State {
         let before = self.left;
         let left = timer::left_after(e.passes, setup, before);
         let so_far = self.counters;
-        let counters = count(so_far, tagless, e);
+        let counters = counters::count(so_far, tagless, e);
         let marks = e.marks;
         let state = State {
             setup,

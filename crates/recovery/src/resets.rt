@@ -4,8 +4,8 @@ ghost use Rattle.recovery.specs.Resets.{cleared, resetState, Begins, Res
 use crate::Begun;
 use crate::Change;
 use crate::Changed;
-use crate::Counters;
 use crate::State;
+use counters::Counters;
 use marks::Marks;
 use setup::Setup;
 use setup::Ticks;
@@ -36,17 +36,7 @@ impl State {
         if refusal != 0 {
             return Begun::Refused(refusal);
         }
-        let counters = Counters {
-            passed: 0,
-            discarded: 0,
-            order: 0,
-            rogue: 0,
-            lost: 0,
-            tagless: 0,
-            resets: 0,
-            latent_resets: 0,
-        };
-        Begun::Ready(clear(setup, counters, 0))
+        Begun::Ready(clear(setup, counters::none(), 0))
     }
 
     // The reset itself, of the call and of a timeout.
@@ -54,9 +44,8 @@ impl State {
         ensures { λ r. ⌜ r ≡ resetState self ⌝ }
     {
         let setup = self.setup;
-        let mut counters = self.counters;
-        counters.resets = std::num::wrapping_add_u64(counters.resets, 1);
-        clear(setup, counters, self.base)
+        let counters = self.counters;
+        clear(setup, counters::count_reset(counters), self.base)
     }
 
     pub fn reset(self) -> Changed

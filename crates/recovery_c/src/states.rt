@@ -1,6 +1,6 @@
 // A recovery state in lent words, one for each field: which words hold one, the state of such words, and the words of a state.
+use counters::Counters;
 use marks::Marks;
-use recovery::Counters;
 use recovery::State;
 use setup::Milliseconds;
 use setup::Setup;

@@ -7,15 +7,16 @@ use Rattle.octets.specs.Number.{be16, be32}
 use Rattle.marks.specs.Window.{mark, none, clearFrom, set, reach, moved, lostBy, slid, lostIn}
 use Rattle.setup.specs.Conversion.{fullTicks, ticksOf}
 use Rattle.setup.specs.Range.{setupChecks, checked, isVector}
-use Rattle.recovery.specs.Counting.{plus}
+use Rattle.counters.specs.Counting.{plus, counted}
 use Rattle.recovery.specs.Resets.{freshState, begunFrom}
 use Rattle.recovery.specs.Soundness.{awaits, sound}
 use Rattle.rules.specs.Difference.{apart, signed, difference}
 use Rattle.rules.specs.Vector.{late, onward, byDifference, vector}
 use Rattle.recovery.specs.Timer.{restarted}
-use Rattle.recovery.specs.Packets.{numbered, counted, settled, heard, packetOf}
+use Rattle.recovery.specs.Packets.{numbered, settled, heard, packetOf}
 use Rattle.rules.specs.TakeAny.{firstMarks, first}
-use Rattle.recovery.specs.LatentErrors.{less, absolute, figure, latentError, latentTestOf}
+use Rattle.counters.specs.LatentErrors.{less, absolute, figure, exceeds}
+use Rattle.recovery.specs.LatentErrors.{latentError, latentTestOf}
 use Rattle.octets.specs.Checks.{verdict}
 use Rattle.lines.specs.Lines.{octetsOf, decimalIn, text, faultText, labels, counted as listed, countersText}
 use Rattle.tape.specs.Event.{known, width, setupAt, begins, hears, acts, runs, checks, eventAt, outcomeAt}
@@ -57,6 +58,6 @@ printed c = octetsOf (c .lines)
 pub as-printed : map given cases ≡ map printed cases
 unfolding be16 be32 mark none clearFrom set reach moved lostBy slid lostIn fullTicks ticksOf setupChecks checked isVector plus freshState
     begunFrom awaits sound apart signed difference late onward byDifference vector restarted numbered firstMarks first counted settled heard
-    packetOf less absolute figure latentError latentTestOf cases setup outputOf tapeChecks verdict played linesFrom figures outcomeAt eventAt
+    packetOf less absolute figure exceeds latentError latentTestOf cases setup outputOf tapeChecks verdict played linesFrom figures outcomeAt eventAt
     checks begins known width setupAt hears acts runs text faultText labels listed countersText decimalIn
 as-printed = refl

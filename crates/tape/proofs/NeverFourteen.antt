@@ -11,7 +11,7 @@ use borrow.Author.Tests.{eqb-true}
 use Rattle.octets.specs.Number.{be16}
 use Rattle.setup.specs.declared.Setup.{Setup}
 use Rattle.recovery.specs.declared.State.{State}
-use Rattle.recovery.specs.declared.Counters.{Counters}
+use Rattle.counters.specs.declared.Counters.{Counters}
 use Rattle.recovery.specs.declared.Packet.{Packet}
 use Rattle.recovery.specs.declared.Packet.the-variants.{Numbered, Tagless}
 use Rattle.recovery.specs.declared.Heard.{Heard}

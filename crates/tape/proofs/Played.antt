@@ -5,7 +5,7 @@ use mathlib.Core.Path.{_≡_, refl, sym, ap, _∙_}
 use mathlib.Core.List.{List, [], _++_, append-assoc, append-nil}
 use lib.ListN.{length, take, getD}
 use Rattle.recovery.specs.declared.State.{State}
-use Rattle.recovery.specs.declared.Counters.{Counters}
+use Rattle.counters.specs.declared.Counters.{Counters}
 use Rattle.lines.specs.declared.Line.{Line}
 use Rattle.lines.specs.Lines.{text, faultText, countersText, longest}
 use Rattle.lines.specs.Page.{Writes}

@@ -10,7 +10,7 @@ use borrow.Author.Tests.{ltb-false}
 use Rattle.octets.specs.Checks.{Check, _⇒_, Verdict, good, refuse, verdict, refusal}
 use Rattle.octets.proofs.Order.{clear}
 use Rattle.recovery.specs.declared.State.{State}
-use Rattle.recovery.specs.declared.Counters.{Counters}
+use Rattle.counters.specs.declared.Counters.{Counters}
 use Rattle.lines.specs.declared.Line.{Line}
 use Rattle.lines.specs.Lines.{text, faultText, countersText}
 use Rattle.tape.specs.declared.Said.{Said}

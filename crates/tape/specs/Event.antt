@@ -25,7 +25,7 @@ use Rattle.recovery.specs.Resets.{begunFrom, resetOf}
 use Rattle.recovery.specs.Packets.{packetOf}
 use Rattle.recovery.specs.Timer.{tickOf}
 use Rattle.recovery.specs.LatentErrors.{latentResetOf, latentTestOf}
-use Rattle.recovery.specs.declared.Counters.{Counters}
+use Rattle.counters.specs.declared.Counters.{Counters}
 use Rattle.lines.specs.declared.Line.{Line}
 use Rattle.lines.specs.declared.Line.the-variants.{Ok, Pass, Discard, Tick, Reset, LatentReset, LatentOk, LatentError}
 use Rattle.octets.specs.Checks.{Check, _⇒_, Verdict, good, refuse, verdict}

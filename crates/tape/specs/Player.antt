@@ -8,7 +8,7 @@ use lib.Dec.{ltb}
 use Rattle.octets.specs.Copy.{fits, putIn}
 use Rattle.octets.specs.Checks.{Check, _⇒_, Verdict, good, refuse, verdict}
 use Rattle.recovery.specs.declared.State.{State}
-use Rattle.recovery.specs.declared.Counters.{Counters}
+use Rattle.counters.specs.declared.Counters.{Counters}
 use Rattle.lines.specs.Lines.{text, faultText, countersText}
 use Rattle.tape.specs.declared.Written.{Written}
 use Rattle.tape.specs.declared.Written.the-variants as written

@@ -7,7 +7,7 @@ use crate::Said;
 use crate::Written;
 use crate::event::outcome;
 use crate::event::width;
-use recovery::Counters;
+use counters::Counters;
 use recovery::State;
 use setup::Setup;
 use setup::Ticks;

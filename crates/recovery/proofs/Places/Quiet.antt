@@ -6,7 +6,8 @@ use Rattle.recovery.specs.declared.Timed.{Timed}
 use Rattle.recovery.specs.declared.Ticked.the-variants.{Reset}
 use Rattle.recovery.specs.Soundness.{sound}
 use Rattle.recovery.specs.Timer.{tickOf}
-use Rattle.recovery.specs.LatentErrors.{rebased, latentCounted}
+use Rattle.recovery.specs.LatentErrors.{rebased}
+use Rattle.counters.proofs.Growth.{latent-stays}
 use Rattle.recovery.proofs.SpanCalls.{quiet-tick, timeout-tick}
 
 abbrev pub Alike : State → State → Type 0
@@ -24,5 +25,5 @@ tick-alike s ok on =
     rw (quiet-tick s ok more) (refl, refl, refl, refl, refl, refl)
 
 pub latent-alike : (s : State) → Alike s (rebased s)
-unfolding rebased latentCounted
-latent-alike s = (refl, refl, refl, refl, refl, refl)
+unfolding rebased
+latent-alike s = let same = latent-stays (s .counters) in (refl, refl, refl, refl, same .same-passed, same .same-lost)

@@ -1,10 +1,10 @@
 -- What the state keeps over a span: it is sound, its setup is the start's, and its newest number, marks and counters stand for the places.
 -- Assumes nothing.
-use mathlib.Core.Path.{_≡_, refl, sym, ap, _∙_}
+use mathlib.Core.Path.{_≡_, refl, ap, _∙_}
 use mathlib.Core.Bool.{Bool, true, cond}
 use mathlib.Core.List.{List, []}
-use Prim.Native.Nat.{ℕ, _+_, _%_, _^_, _≤_, _<_}
-use native.Mathlib.Nat.{add-assoc, add-zero, mod-add-mod, mod-mod}
+use Prim.Native.Nat.{ℕ, _+_, _≤_, _<_}
+use native.Mathlib.Nat.{add-assoc, add-zero}
 use native.Mathlib.Omega.{arith}
 use lib.Dec.{eqb}
 use lib.ListN.{length}
@@ -16,13 +16,14 @@ use Rattle.recovery.specs.declared.Verdict.the-variants.{Pass, Discard}
 use Rattle.recovery.specs.declared.Ticked.the-variants.{Reset}
 use Rattle.marks.specs.Window.{most}
 use Rattle.setup.specs.Range.{isVector}
-use Rattle.recovery.specs.Counting.{plus}
 use Rattle.recovery.specs.Soundness.{sound}
-use Rattle.recovery.specs.Packets.{numbered, counted, settled, heard, packetOf, Hears}
+use Rattle.recovery.specs.Packets.{numbered, settled, heard, packetOf, Hears}
 use Rattle.recovery.specs.Timer.{tickOf}
 use Rattle.recovery.specs.LatentErrors.{rebased, latentResetOf}
+use Rattle.rules.specs.NoNumber.{unnumbered}
 use Rattle.rules.specs.Places.{passes, after, lost}
-use Rattle.recovery.specs.Spans.{Grown}
+use Rattle.counters.specs.Growth.{Grown}
+use Rattle.counters.proofs.Growth.{counted-grows, grown-more}
 use Rattle.setup.proofs.InRange.{in-range}
 use Rattle.recovery.proofs.SoundLaws.{Sound, sound-says}
 use Rattle.recovery.proofs.SoundCalls.{packet-answers, tick-answers, latent-reset-answers}
@@ -37,13 +38,6 @@ pub record Tracks (start : State) (ps : List ℕ) (tags : ℕ) (s : State) : Typ
   pub stands : Stands (start .setup .history) ps (s .«take_any») (s .newest) (s .marks)
   pub passed-grown : Grown (start .counters .passed) (length ps + tags) (s .counters .passed)
   pub lost-grown : Grown (start .counters .lost) (lost (start .setup .history) ps) (s .counters .lost)
-
--- a counter that has grown, and grows once more
-grown-more : (a n b m : ℕ) → Grown a n b → Grown a (n + m) (plus b m)
-unfolding plus
-grown-more a n b m g =
-    mod-mod (b + m) (2 ^ 64) ∙ sym (mod-add-mod b (2 ^ 64) m) ∙ ap (λ (x : ℕ). (x + m) % 2 ^ 64) g
-    ∙ mod-add-mod (a + n) (2 ^ 64) m ∙ ap (λ (x : ℕ). x % 2 ^ 64) (add-assoc a n m)
 
 module _ (start : State) (rule : isVector (start .setup) ≡ true) where
   abbrev h : ℕ
@@ -80,32 +74,38 @@ module _ (start : State) (rule : isVector (start .setup) ≡ true) where
         (ap (λ (t : Bool). cond t Pass Discard) (numbered-there number bits .verdict))
 
     pub numbered-tracks : (number : ℕ) → number < 65536 → Tracks start (after h ps number) tags (packetOf s (Numbered number) .state)
-    unfolding heard settled counted
+    unfolding heard settled
     numbered-tracks number bits =
         let st : Obeys h ps number (numbered s number) = numbered-there number bits in
-        let more : ℕ = cond (passes h ps number) 1 0 in
+        let grows = counted-grows (s .counters) 0 (numbered s number) in
+        let more : ℕ = cond (numbered s number .passes) 1 0 in
         let sum : length ps + more + tags ≡ length ps + tags + more = omega arith in
         rw (packet-answers s (track .still-sound) (Numbered number))
         (record {
           still-sound = heard-sound s ok (Numbered number);
           same-setup = track .same-setup;
           stands = stands-of h (after h ps number) _ _ (st .follows);
-          passed-grown = rw (one-more h ps number, st .verdict, sum) (grown-more _ _ _ more (track .passed-grown));
-          lost-grown = rw (st .loses) (grown-more _ _ _ (numbered s number .lost) (track .lost-grown));
+          passed-grown = rw (one-more h ps number, ← st .verdict, sum) (grown-more _ _ _ _ _ (track .passed-grown) (grows .passed-grown));
+          lost-grown = rw (st .loses) (grown-more _ _ _ _ _ (track .lost-grown) (grows .lost-grown));
         })
 
     pub tagless-tracks : Tracks start ps (tags + cond (eqb (start .setup .taken) 1) 1 0) (packetOf s Tagless .state)
-    unfolding heard settled counted
+    unfolding heard settled
     tagless-tracks =
-        let more : ℕ = cond (eqb (start .setup .taken) 1) 1 0 in
+        let effect = unnumbered (s .setup .taken) (s .newest) (s .marks) in
         let still = untouched (s .setup .taken) (s .newest) (s .marks) in
+        let grows = counted-grows (s .counters) 1 effect in
+        let more : ℕ = cond (effect .passes) 1 0 in
+        let if-taken : more ≡ cond (eqb (start .setup .taken) 1) 1 0 = rw (still .if-taken, track .same-setup) in
+        let none : lost h ps + effect .lost ≡ lost h ps = rw (still .loses-none) (add-zero (lost h ps)) in
         rw (packet-answers s (track .still-sound) Tagless)
         (record {
           still-sound = heard-sound s ok Tagless;
           same-setup = track .same-setup;
           stands = rw (still .same-newest, still .same-marks) (track .stands);
-          passed-grown = rw (still .if-taken, track .same-setup, ← add-assoc (length ps) tags more) (grown-more _ _ _ more (track .passed-grown));
-          lost-grown = rw (still .loses-none, ← add-zero (lost h ps)) (grown-more _ _ _ 0 (track .lost-grown));
+          passed-grown =
+              rw (← if-taken, ← add-assoc (length ps) tags more) (grown-more _ _ _ _ _ (track .passed-grown) (grows .passed-grown));
+          lost-grown = rw (← none) (grown-more _ _ _ _ _ (track .lost-grown) (grows .lost-grown));
         })
 
     -- what leaves all that as it was keeps it

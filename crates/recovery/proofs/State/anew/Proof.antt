@@ -1,14 +1,13 @@
 -- `State::anew` meets its contract. Assumes nothing.
 use mathlib.Core.Path.{_∙_}
-use Rattle.recovery.specs.Counting.{plus}
-use Rattle.recovery.specs.Resets.{resetCounted, resetState}
+use Rattle.recovery.specs.Resets.{resetState}
 use borrow.Author.Needs.{needs}
 use Rattle.recovery.proofs.State.anew.Statement.{statement}
 use Rattle.recovery.proofs.State.anew.Tie as tie
 
 returns : tie.Need-returns
-unfolding plus resetCounted resetState
-returns c = c .clear .ensures ∙ rw (c .before .wrapping-add-u64 .ensures)
+unfolding resetState
+returns c = c .clear .ensures ∙ rw (c .before .count-reset .ensures)
 
 pub anew-spec : {M : Type 1} → statement M
 anew-spec = tie.close (search (tie.spec, returns, needs))

@@ -2,19 +2,14 @@
 use mathlib.Core.Path.{_≡_}
 use mathlib.Core.Bool.{true}
 use Rattle.octets.proofs.Bools.{said-yes, said-no}
-use Rattle.recovery.specs.Counting.{plus}
 use Rattle.recovery.specs.Soundness.{sound}
-use Rattle.recovery.specs.LatentErrors.{latentCounted, rebased, latentResetOf}
-use Rattle.recovery.proofs.SoundLaws.{some-paths}
+use Rattle.recovery.specs.LatentErrors.{rebased, latentResetOf}
 use borrow.Author.Needs.{needs}
 use Rattle.recovery.proofs.State.latent_reset.Statement.{statement}
 use Rattle.recovery.proofs.State.latent_reset.Tie as tie
 
 sound-here : (c : tie.Else1) → sound (c .before .before .args .self) ≡ true
 sound-here c = said-yes (c .before .is-sound .ensures) (c .if1 .left)
-
-figure-of-requires : tie.Need-figure-of-requires
-figure-of-requires c κs = some-paths _ (sound-here (c .before .before))
 
 -- the state is not sound
 returns : tie.Need-returns
@@ -23,10 +18,10 @@ returns c = rw (said-no (c .before .is-sound .ensures) (c .if1 .taken))
 
 -- it is sound
 returns-2 : tie.Need-returns-2
-unfolding latentResetOf plus latentCounted rebased
+unfolding latentResetOf rebased
 returns-2 c =
     let figure = c .before in
-    rw (sound-here (figure .before .before .before), ← c .wrapping-add-u64 .ensures, ← figure .figure-of .ensures)
+    rw (sound-here (figure .before .before .before), ← c .count-latent-reset .ensures, ← figure .figure .ensures)
 
 pub latent-reset-spec : {M : Type 1} → statement M
-latent-reset-spec = tie.close (search (tie.spec, figure-of-requires, returns, returns-2, needs))
+latent-reset-spec = tie.close (search (tie.spec, returns, returns-2, needs))

@@ -1,9 +1,9 @@
 -- `latent_errors::less_by` meets its contract. Assumes nothing.
 use native.Mathlib.Omega.{arith}
-use Rattle.recovery.specs.LatentErrors.{less}
+use Rattle.counters.specs.LatentErrors.{less}
 use borrow.Author.Needs.{needs}
-use Rattle.recovery.proofs.latent_errors.less_by.Statement.{statement}
-use Rattle.recovery.proofs.latent_errors.less_by.Tie as tie
+use Rattle.counters.proofs.latent_errors.less_by.Statement.{statement}
+use Rattle.counters.proofs.latent_errors.less_by.Tie as tie
 
 returns : tie.Need-returns
 unfolding less

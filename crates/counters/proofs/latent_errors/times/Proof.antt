@@ -4,8 +4,8 @@ use Prim.Native.Nat.{ℕ, _+_, _*_, _/_, _%_, _^_}
 use native.Mathlib.Nat.{mul-le-mul, add-mul, mul-assoc, mul-comm, div-add-mod'}
 use native.Mathlib.Omega.{arith}
 use borrow.Author.Needs.{needs}
-use Rattle.recovery.proofs.latent_errors.times.Statement.{statement}
-use Rattle.recovery.proofs.latent_errors.times.Tie as tie
+use Rattle.counters.proofs.latent_errors.times.Statement.{statement}
+use Rattle.counters.proofs.latent_errors.times.Tie as tie
 
 mul-high : tie.Need-mul-high
 mul-high c = omega (arith, mul-le-mul {n₁ = c .args .n / 2 ^ 32} {m₁ = c .args .k} {n₂ = 2 ^ 32} {m₂ = 2 ^ 8} (omega arith) (omega arith))

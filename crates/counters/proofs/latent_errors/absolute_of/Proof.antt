@@ -1,10 +1,10 @@
 -- `latent_errors::absolute_of` meets its contract. Assumes nothing.
 use native.Mathlib.Omega.{arith}
 use borrow.Author.Tests.{lt-ltb, le-ltb}
-use Rattle.recovery.specs.LatentErrors.{absolute}
+use Rattle.counters.specs.LatentErrors.{absolute}
 use borrow.Author.Needs.{needs}
-use Rattle.recovery.proofs.latent_errors.absolute_of.Statement.{statement}
-use Rattle.recovery.proofs.latent_errors.absolute_of.Tie as tie
+use Rattle.counters.proofs.latent_errors.absolute_of.Statement.{statement}
+use Rattle.counters.proofs.latent_errors.absolute_of.Tie as tie
 
 sub-result : tie.Need-sub-result
 sub-result c = search needs

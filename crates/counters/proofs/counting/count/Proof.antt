@@ -1,10 +1,9 @@
--- `packets::count` meets its contract: each counter by what the wrapping sum gives. Assumes nothing.
+-- `count` meets its promise: each counter by what the wrapping sum gives. Assumes nothing.
 use Rattle.octets.proofs.Bools.{one-if, one-unless}
-use Rattle.recovery.specs.Counting.{plus}
-use Rattle.recovery.specs.Packets.{counted}
+use Rattle.counters.specs.Counting.{plus, counted}
 use borrow.Author.Needs.{needs}
-use Rattle.recovery.proofs.packets.count.Statement.{statement}
-use Rattle.recovery.proofs.packets.count.Tie as tie
+use Rattle.counters.proofs.counting.count.Statement.{statement}
+use Rattle.counters.proofs.counting.count.Tie as tie
 
 cast-discarded : tie.Need-cast-wrapping-add-u64
 cast-discarded c = search needs

@@ -1,0 +1,27 @@
+-- The counters grow as the third demand says (`specs/Growth.antt`), and growing adds up. Assumes nothing.
+use mathlib.Core.Path.{_≡_, refl, sym, ap, _∙_}
+use Prim.Native.Nat.{ℕ, _+_, _%_, _^_}
+use native.Mathlib.Nat.{add-assoc, mod-add-mod, mod-mod}
+use Rattle.rules.specs.declared.Effect.{Effect}
+use Rattle.counters.specs.declared.Counters.{Counters}
+use Rattle.counters.specs.Counting.{plus, counted, resetCounted}
+use Rattle.counters.specs.LatentErrors.{latentCounted}
+use Rattle.counters.specs.Growth.{Grown, GrownByPacket, Stays}
+
+pub counted-grows : (k : Counters) (tagless : ℕ) (effect : Effect) → GrownByPacket k effect (counted k tagless effect)
+unfolding plus counted
+counted-grows k tagless effect = record { passed-grown = mod-mod _ _; lost-grown = mod-mod _ _ }
+
+pub reset-stays : (k : Counters) → Stays k (resetCounted k)
+unfolding resetCounted
+reset-stays k = record { same-passed = refl; same-lost = refl }
+
+pub latent-stays : (k : Counters) → Stays k (latentCounted k)
+unfolding latentCounted
+latent-stays k = record { same-passed = refl; same-lost = refl }
+
+-- a counter that has grown, and grows once more
+pub grown-more : (a n b m c : ℕ) → Grown a n b → Grown b m c → Grown a (n + m) c
+grown-more a n b m c first then =
+    then ∙ sym (mod-add-mod b (2 ^ 64) m) ∙ ap (λ (x : ℕ). (x + m) % 2 ^ 64) first
+    ∙ mod-add-mod (a + n) (2 ^ 64) m ∙ ap (λ (x : ℕ). x % 2 ^ 64) (add-assoc a n m)
