@@ -1,12 +1,13 @@
 -- The calls of a sound state, in the words that a statement about a span of calls needs: what a packet does by its rule, and what a tick
 -- leaves alone. Assumes nothing.
 use Prim.Native.Nat.{ℕ, _-_}
-use mathlib.Core.Path.{_≡_, refl, ap, _∙_}
-use mathlib.Core.Bool.{Bool, true, false}
+use mathlib.Core.Path.{_≡_, ap, _∙_}
+use mathlib.Core.Bool.{true, false}
 use lib.Dec.{eqb}
 use borrow.Author.Tests.{eq-eqb, ne-eqb, eqb-true}
 use native.Mathlib.Omega.{arith}
 use Rattle.recovery.specs.declared.State.{State}
+use Rattle.recovery.specs.declared.Timed.{Timed}
 use Rattle.recovery.specs.declared.Ticked.the-variants.{Tick, Reset}
 use Rattle.recovery.specs.declared.Packet.the-variants.{Numbered, Tagless}
 use Rattle.setup.specs.Range.{isVector}
@@ -18,7 +19,7 @@ use Rattle.rules.specs.NoNumber.{unnumbered}
 use Rattle.rules.specs.TakeAny.{first}
 use Rattle.rules.specs.Matching.{match}
 use Rattle.recovery.specs.Packets.{numbered, settled, heard, packetOf}
-use Rattle.octets.proofs.Bools.{choose-first, choose-second}
+use Rattle.octets.proofs.Bools.{either, choose-first, choose-second}
 use Rattle.recovery.proofs.RuleLaws.{by-take-any, by-vector, by-match}
 use Rattle.recovery.proofs.SoundCalls.{packet-answers, tick-answers}
 
@@ -43,13 +44,14 @@ module _ (s : State) (ok : sound s ≡ true) where
   -- a tick that does not time out changes nothing but ticks left
   pub quiet-tick : (s .left .0 ≡ 1 → ⊥) → tickOf s ≡ record { ticked = Tick; state = withLeft (s .left .0 - 1) s }
   unfolding timed
-  quiet-tick more = tick-answers s ok ∙ by (eqb (s .left .0) 0) refl
+  quiet-tick more =
+      tick-answers s ok
+      ∙ either (λ (r : Timed). r ≡ left-at (s .left .0 - 1)) (eqb (s .left .0) 0)
+      (λ none. let same : s .left .0 ≡ s .left .0 - 1 = omega (arith, eqb-true (s .left .0) 0 none) in ap left-at same)
+      (λ _. choose-second _ _ (ne-eqb _ _ more))
     where
-      by : (none : Bool) → eqb (s .left .0) 0 ≡ none → timed s ≡ record { ticked = Tick; state = withLeft (s .left .0 - 1) s }
-      by true e =
-          let z : s .left .0 ≡ s .left .0 - 1 = omega (arith, eqb-true (s .left .0) 0 e) in
-          choose-first _ _ e ∙ ap (λ (left : ℕ). record { ticked = Tick; state = withLeft left s }) z
-      by false e = choose-second _ _ e ∙ choose-second _ _ (ne-eqb _ _ more)
+      left-at : ℕ → Timed
+      left-at left = record { ticked = Tick; state = withLeft left s }
 
   -- a timeout is a reset
   pub timeout-tick : s .left .0 ≡ 1 → tickOf s ≡ record { ticked = Reset; state = resetState s }

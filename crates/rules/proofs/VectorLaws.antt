@@ -1,12 +1,13 @@
 -- The vector rule by cases: which of its lines a packet falls under, from how far apart the numbers are. Assumes nothing.
 use Prim.Native.Nat.{ℕ, _-_, _<_, _≤_}
 use mathlib.Core.Path.{_≡_, refl, ap, _∙_}
-use mathlib.Core.Bool.{Bool, true, false, cond}
+use mathlib.Core.Bool.{cond}
 use lib.Dec.{eqb, ltb}
 use borrow.Author.Tests.{lt-ltb, le-ltb, le-leb, lt-leb, ne-eqb, eqb-true, ltb-false}
 use native.Mathlib.Omega.{arith}
+use Rattle.octets.proofs.Bools.{either}
 use Rattle.marks.specs.declared.Marks.{Marks}
-use Rattle.rules.specs.Difference.{ahead, behind, apart, signed, difference, outOfOrder}
+use Rattle.rules.specs.Difference.{Difference, ahead, behind, apart, signed, difference, outOfOrder}
 use Rattle.rules.specs.Effects.{discarded}
 use Rattle.rules.specs.Vector.{late, onward, byDifference, vector}
 
@@ -47,12 +48,15 @@ module _ (h newest : ℕ) (marks : Marks) (number k : ℕ) where
 -- order is spared only at d = 1
 pub out-of-order : (newest number : ℕ) → outOfOrder (difference newest number) ≡ cond (eqb (apart newest number) 1) 0 1
 unfolding difference signed outOfOrder
-out-of-order newest number = by (apart newest number) (eqb (apart newest number) 0) (ltb (apart newest number) 32768) refl refl
+out-of-order newest number =
+    either unless-one (eqb far 0)
+    (λ z. rw (eqb-true far 0 z))
+    (λ _. either unless-one (ltb far 32768)
+    (λ _. refl)
+    (λ t. let above : 32768 ≤ far = ltb-false far 32768 t in rw (ne-eqb far 1 (λ e. omega arith))))
   where
-    by : (far : ℕ) (p q : Bool) → eqb far 0 ≡ p → ltb far 32768 ≡ q → outOfOrder (signed far) ≡ cond (eqb far 1) 0 1
-    by far true q e₁ e₂ = rw (eqb-true far 0 e₁)
-    by far false true e₁ e₂ = rw (e₁, e₂)
-    by far false false e₁ e₂ =
-        let above : 32768 ≤ far = ltb-false far 32768 e₂ in
-        let no : far ≡ 1 → ⊥ = λ e. omega arith in
-        rw (e₁, e₂, ne-eqb far 1 no)
+    far : ℕ
+    far = apart newest number
+
+    unless-one : Difference → Type 0
+    unless-one d = outOfOrder d ≡ cond (eqb far 1) 0 1

@@ -1,11 +1,12 @@
 -- The place nearest the newest: it bears the number, and d of the vector rule leads from the newest place to it. Assumes nothing.
 use mathlib.Core.Path.{_≡_, refl, sym, _∙_}
-use mathlib.Core.Bool.{Bool, true, false}
+use mathlib.Core.Bool.{true, false}
 use Prim.Native.Nat.{ℕ, _+_, _-_, _%_, _≤_, _<_}
 use native.Mathlib.Omega.{arith}
 use mathlib.Core.Logic.{_≢_}
 use lib.Dec.{eqb, ltb}
 use borrow.Author.Tests.{eqb-true, eqb-false, ltb-true, ltb-false}
+use Rattle.octets.proofs.Bools.{by-cases}
 use Rattle.rules.specs.Places.{nearest}
 use Rattle.rules.specs.Difference.{Difference, ahead, behind, apart, difference}
 use Rattle.rules.proofs.VectorLaws.{is-same, is-ahead, is-behind}
@@ -51,7 +52,12 @@ pub data Leads (newest place : ℕ) : Difference → Type 0 where
 
 pub leads : (newest number : ℕ) → 65536 ≤ newest → number < 65536
     → Leads newest (nearest newest number) (difference (newest % 65536) number)
-leads newest number room bits = by (eqb far 0) refl (ltb far 32768) refl
+leads newest number room bits =
+    by-cases (eqb far 0)
+    (λ z. rw (is-same r number far refl (eqb-true far 0 z)) (back 0 (none z)))
+    (λ z. by-cases (ltb far 32768)
+    (λ t. rw (is-ahead r number far refl (eqb-false far 0 z) (ltb-true far 32768 t)) (ahead-by z t))
+    (λ t. rw (is-behind r number far refl (ltb-false far 32768 t)) (behind-by t)))
   where
     r : ℕ
     r = newest % 65536
@@ -68,15 +74,19 @@ leads newest number room bits = by (eqb far 0) refl (ltb far 32768) refl
     at : (p : ℕ) → newest ≤ p + 32768 → p < newest + 32768 → p % 65536 ≡ number → nearest newest number ≡ p
     at p low high there = nearest-only newest number p (omega arith) bits low high there
 
-    by : (z : Bool) → eqb far 0 ≡ z → (l : Bool) → ltb far 32768 ≡ l → Leads newest (nearest newest number) (difference r number)
-    by true z l t =
-        let none : far ≡ 0 = eqb-true far 0 z in
-        rw (is-same r number far refl none) (back 0 (omega (arith, at newest (omega arith) (omega arith) (omega (arith, bears)))))
-    by false z true t =
+    none : eqb far 0 ≡ true → nearest newest number + 0 ≡ newest
+    none z =
+        let same : far ≡ 0 = eqb-true far 0 z in
+        omega (arith, at newest (omega arith) (omega arith) (omega (arith, bears)))
+
+    ahead-by : eqb far 0 ≡ false → ltb far 32768 ≡ true → Leads newest (nearest newest number) (ahead far)
+    ahead-by z t =
         let off : far ≢ 0 = eqb-false far 0 z in
         let up : far < 32768 = ltb-true far 32768 t in
-        rw (is-ahead r number far refl off up) (on far (omega arith) (at (newest + far) (omega arith) (omega arith) bears))
-    by false z false t =
+        on far (omega arith) (at (newest + far) (omega arith) (omega arith) bears)
+
+    behind-by : ltb far 32768 ≡ false → Leads newest (nearest newest number) (behind (65536 - far))
+    behind-by t =
         let down : 32768 ≤ far = ltb-false far 32768 t in
         let there = at (newest + far - 65536) (omega (arith, turn)) (omega (arith, turn)) (omega (arith, bears)) in
-        rw (is-behind r number far refl down) (back (65536 - far) (omega (arith, turn)))
+        back (65536 - far) (omega (arith, turn))

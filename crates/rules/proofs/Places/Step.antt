@@ -1,7 +1,7 @@
 -- A step of the vector rule follows the places: it passes what they say passes, its newest number and marks stand for the passed places
 -- after it, and it loses what they lose. For every history length that there is. Assumes nothing.
 use mathlib.Core.Path.{_≡_, refl, sym, _∙_}
-use mathlib.Core.Bool.{Bool, true, false, cond}
+use mathlib.Core.Bool.{true, false, cond}
 use mathlib.Core.Logic.{inl, inr}
 use mathlib.Core.List.{List, [], _∷_}
 use Prim.Native.Nat.{ℕ, _+_, _-_, _%_, _≤_, _<_, max}
@@ -9,6 +9,7 @@ use native.Mathlib.Nat.{sub-zero, sub-self}
 use native.Mathlib.Omega.{arith}
 use lib.Dec.{leb}
 use borrow.Author.Tests.{leb-true, leb-false}
+use Rattle.octets.proofs.Bools.{by-cases}
 use Rattle.marks.specs.declared.Marks.{Marks}
 use Rattle.marks.specs.Window.{most, mark, slid}
 use Rattle.rules.specs.Difference.{Difference, difference}
@@ -108,45 +109,45 @@ module _ (h p : ℕ) (ps : List ℕ) (hs : 1 ≤ h) (room : h ≤ most) (number 
   late-obeys : (newest : ℕ) (marks : Marks) (k : ℕ) → Follows h (p ∷ ps) newest marks → k < h → q + k ≡ N
       → Obeys h (p ∷ ps) number (late newest marks k)
   unfolding late unpassed
-  late-obeys newest marks k f less e = by (among q (p ∷ ps)) refl
+  late-obeys newest marks k f less e =
+      by-cases (among q (p ∷ ps))
+      (λ had. rw (marked, had) (stays newest marks 0 f (again h p ps number had)))
+      (λ new. rw (marked, new)
+      (goes _ (f .kept) (omega arith) (omega arith) new refl
+      (rw top (f .at))
+      (rw (top, ← spot) (shown-set h hs room (p ∷ ps) N marks (f .shown) k less (omega (arith, f .kept))))
+      (rw gap)))
     where
+      top : max q N ≡ N
+      top = omega arith
+
+      gap : q - N ≡ 0
+      gap = omega arith
+
       spot : N - k ≡ q
       spot = omega arith
 
       marked : mark k marks ≡ cond (among q (p ∷ ps)) 1 0
       marked = rw spot at (f .shown .mark-at k less)
 
-      by : (t : Bool) → among q (p ∷ ps) ≡ t → Obeys h (p ∷ ps) number (late newest marks k)
-      by true had = rw (marked, had) (stays newest marks 0 f (again h p ps number had))
-      by false new =
-          let top : max q N ≡ N = omega arith in
-          let gap : q - N ≡ 0 = omega arith in
-          rw (marked, new)
-          (goes _ (f .kept) (omega arith) (omega arith) new refl
-          (rw top (f .at))
-          (rw (top, ← spot) (shown-set h hs room (p ∷ ps) N marks (f .shown) k less (omega (arith, f .kept))))
-          (rw gap))
-
   pub vector-obeys : (newest : ℕ) (marks : Marks) → Follows h (p ∷ ps) newest marks → Obeys h (p ∷ ps) number (vector h newest marks number)
   unfolding place
   vector-obeys newest marks f = by (difference newest number) refl (rw (f .at) (leads N number (omega (arith, f .kept)) bits))
     where
       by : (d : Difference) → difference newest number ≡ d → Leads N q d → Obeys h (p ∷ ps) number (vector h newest marks number)
-      by d e (on k pos there) = at (leb h k) refl
-        where
-          at : (t : Bool) → leb h k ≡ t → Obeys h (p ∷ ps) number (vector h newest marks number)
-          at true t =
-              let beyond : h ≤ k = leb-true h k t in
-              rw (rogue-ahead h newest marks number k e beyond) (stays newest marks 1 f (far h p ps number (near-false h q N (inl (omega arith)))))
-          at false t =
-              let less : k < h = leb-false h k t in
-              rw (goes-onward h newest marks number k e less) (onward-obeys newest marks k f pos less there)
-      by d e (back k there) = at (leb h k) refl
-        where
-          at : (t : Bool) → leb h k ≡ t → Obeys h (p ∷ ps) number (vector h newest marks number)
-          at true t =
-              let beyond : h ≤ k = leb-true h k t in
-              rw (rogue-behind h newest marks number k e beyond) (stays newest marks 1 f (far h p ps number (near-false h q N (inr (omega arith)))))
-          at false t =
-              let less : k < h = leb-false h k t in
-              rw (comes-late h newest marks number k e less) (late-obeys newest marks k f less there)
+      by d e (on k pos there) =
+          by-cases (leb h k)
+          (λ t.
+            let beyond : h ≤ k = leb-true h k t in
+            rw (rogue-ahead h newest marks number k e beyond) (stays newest marks 1 f (far h p ps number (near-false h q N (inl (omega arith))))))
+          (λ t.
+            let less : k < h = leb-false h k t in
+            rw (goes-onward h newest marks number k e less) (onward-obeys newest marks k f pos less there))
+      by d e (back k there) =
+          by-cases (leb h k)
+          (λ t.
+            let beyond : h ≤ k = leb-true h k t in
+            rw (rogue-behind h newest marks number k e beyond) (stays newest marks 1 f (far h p ps number (near-false h q N (inr (omega arith))))))
+          (λ t.
+            let less : k < h = leb-false h k t in
+            rw (comes-late h newest marks number k e less) (late-obeys newest marks k f less there))

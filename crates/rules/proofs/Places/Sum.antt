@@ -1,10 +1,11 @@
 -- The closing sum (document 01, demand 3): what every list of passed places keeps, and that the sum closes for it. Assumes nothing.
 use mathlib.Core.Path.{_≡_, refl}
-use mathlib.Core.Bool.{Bool, true, false}
+use mathlib.Core.Bool.{false}
 use mathlib.Core.List.{List, [], _∷_}
 use Prim.Native.Nat.{ℕ, _+_, _-_, _≤_, _<_, max}
 use native.Mathlib.Omega.{arith}
 use lib.ListN.{length}
+use Rattle.octets.proofs.Bools.{either}
 use Rattle.rules.specs.Places.{among, newestPlace, firstPlace, place, passes, after, passed, unpassed, window, movedOn, lost, stillOpen}
 use Rattle.rules.proofs.Places.Passing.{passes-above, passes-new}
 use Rattle.rules.proofs.Places.Counting.{Held, held-wider, held-sum, unpassed-split}
@@ -46,11 +47,10 @@ kept-next h q p ps hs kept near new =
 
 pub kept-after : (h p : ℕ) (ps : List ℕ) (number : ℕ) → h ≤ 65536 → Kept h (p ∷ ps) → Kept h (after h (p ∷ ps) number)
 unfolding after
-kept-after h p ps number hs kept = by (passes h (p ∷ ps) number) refl
-  where
-    by : (t : Bool) → passes h (p ∷ ps) number ≡ t → Kept h (after h (p ∷ ps) number)
-    by true t = rw t (kept-next h _ p ps hs kept (passes-above h p ps number t) (passes-new h p ps number t))
-    by false t = rw t kept
+kept-after h p ps number hs kept =
+    either (Kept h) (passes h (p ∷ ps) number)
+    (λ t. kept-next h _ p ps hs kept (passes-above h p ps number t) (passes-new h p ps number t))
+    (λ _. kept)
 
 -- places in the window at the first packet, plus places it has moved on, equal those passed, plus those lost, plus those still open
 kept-closes : (h p : ℕ) (ps : List ℕ) → h ≤ 65536 → Kept h (p ∷ ps) → Closes h (p ∷ ps)
