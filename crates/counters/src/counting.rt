@@ -19,20 +19,16 @@ pub fn none() -> Counters
 }
 
 // Every count of a packet in one place: passed and discarded add 1 to their counters, a rogue's discard too.
-pub fn count(k: Counters, tagless: u64, e: Effect) -> Counters
+pub fn count(mut k: Counters, tagless: u64, e: Effect) -> Counters
     ensures { λ r. ⌜ Counts k tagless e r ⌝ }
 {
-    let discarded = std::num::wrapping_add_u64(k.discarded, !e.passes as u64);
-    Counters {
-        passed: std::num::wrapping_add_u64(k.passed, e.passes as u64),
-        discarded,
-        order: std::num::wrapping_add_u64(k.order, e.order),
-        rogue: std::num::wrapping_add_u64(k.rogue, e.rogue),
-        lost: std::num::wrapping_add_u64(k.lost, e.lost),
-        tagless: std::num::wrapping_add_u64(k.tagless, tagless),
-        resets: k.resets,
-        latent_resets: k.latent_resets,
-    }
+    k.passed = std::num::wrapping_add_u64(k.passed, e.passes as u64);
+    k.discarded = std::num::wrapping_add_u64(k.discarded, !e.passes as u64);
+    k.order = std::num::wrapping_add_u64(k.order, e.order);
+    k.rogue = std::num::wrapping_add_u64(k.rogue, e.rogue);
+    k.lost = std::num::wrapping_add_u64(k.lost, e.lost);
+    k.tagless = std::num::wrapping_add_u64(k.tagless, tagless);
+    k
 }
 
 pub fn count_reset(mut k: Counters) -> Counters

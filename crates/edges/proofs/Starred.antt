@@ -14,6 +14,7 @@ use Rattle.rules.specs.Difference.{apart, signed, difference, outOfOrder}
 use Rattle.rules.specs.TakeAny.{firstMarks, first}
 use Rattle.rules.specs.Vector.{late, onward, byDifference, vector}
 use Rattle.rules.specs.Matching.{match}
+use Rattle.rules.specs.ByRule.{byRule}
 use Rattle.recovery.specs.declared.State.{State}
 use Rattle.recovery.specs.declared.Packet.the-variants.{Numbered}
 use Rattle.recovery.specs.declared.Verdict.{Verdict}
@@ -94,5 +95,5 @@ abbrev pub expected : Case → Answer
 expected c = c .said
 
 pub starred : map given cases ≡ map expected cases
-unfolding cases tag mark none clearFrom set reach moved lostBy slid lostIn verdict fullTicks ticksOf setupChecks checked isVector apart signed difference outOfOrder firstMarks first late onward byDifference vector match plus awaits sound freshState restarted numbered counted settled heard packetOf
+unfolding cases tag mark none clearFrom set reach moved lostBy slid lostIn verdict fullTicks ticksOf setupChecks checked isVector apart signed difference outOfOrder firstMarks first late onward byDifference vector match plus awaits sound freshState restarted byRule numbered counted settled heard packetOf
 starred = refl

@@ -26,6 +26,7 @@ use Rattle.recovery.specs.Timer.{restarted, withLeft, timed}
 use Rattle.rules.specs.NoNumber.{unnumbered}
 use Rattle.rules.specs.TakeAny.{firstMarks, first}
 use Rattle.rules.specs.Matching.{match}
+use Rattle.rules.specs.ByRule.{byRule}
 use Rattle.recovery.specs.Packets.{numbered, settled, heard}
 use Rattle.recovery.specs.LatentErrors.{rebased}
 use Rattle.recovery.proofs.SoundLaws.{Sound, sound-by}
@@ -147,7 +148,7 @@ module _ (s : State) (ok : Sound s) where
         same effect e = off-sound effect (rw e (ok .clear-above)) (rw e (ok .match-bare)) (rw v) (left-some (effect .passes) left)
 
   numbered-sound : (number : ℕ) → After false 0 (numbered s number)
-  unfolding numbered
+  unfolding numbered byRule
   numbered-sound number =
       either (After false 0) (s .«take_any»)
       (λ _. first-sound number)

@@ -5,9 +5,7 @@ use mathlib.Core.Bool.{Bool, false, cond}
 use Rattle.setup.specs.Range.{isVector}
 use Rattle.rules.specs.declared.Effect.{Effect}
 use Rattle.rules.specs.NoNumber.{unnumbered}
-use Rattle.rules.specs.TakeAny.{first}
-use Rattle.rules.specs.Vector.{vector}
-use Rattle.rules.specs.Matching.{match}
+use Rattle.rules.specs.ByRule.{byRule}
 use Rattle.counters.specs.Counting.{counted}
 use Rattle.recovery.specs.declared.State.{State}
 use Rattle.recovery.specs.declared.Packet.{Packet}
@@ -17,14 +15,9 @@ use Rattle.recovery.specs.declared.Verdict.the-variants.{Pass, Discard, 
 use Rattle.recovery.specs.Soundness.{sound}
 use Rattle.recovery.specs.Timer.{restarted}
 
--- a packet with a number: "take-any", else by the rule
+-- a packet with a number: "take-any", else by the rule of the setup
 unfoldable pub numbered : State → ℕ → Effect
-numbered s number =
-    cond (s .«take_any»)
-    (first (isVector (s .setup)) number)
-    (cond (isVector (s .setup))
-    (vector (s .setup .history) (s .newest) (s .marks) number)
-    (match (s .newest) (s .marks) number))
+numbered s number = byRule (isVector (s .setup)) (s .setup .history) (s .«take_any») (s .newest) (s .marks) number
 
 -- the verdict and the whole next state, of the state, its next take-any, how many packets had no number, and what the packet does
 unfoldable pub settled : State → Bool → ℕ → Effect → Heard

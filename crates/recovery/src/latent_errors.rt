@@ -4,8 +4,6 @@ use crate::Change;
 use crate::Changed;
 use crate::Latent;
 use crate::State;
-use counters::Counters;
-use setup::Setup;
 
 impl State {
     // Base = figure, latent-resets +1.
@@ -18,10 +16,9 @@ impl State {
                 state: self,
             };
         }
-        let setup = self.setup;
-        let counters = self.counters;
-        self.base = counters::figure(counters, setup.paths);
-        self.counters = counters::count_latent_reset(counters);
+        let figure = counters::figure(self.counters, self.setup.paths);
+        self.base = figure;
+        self.counters = counters::count_latent_reset(self.counters);
         Changed {
             change: Change::Done,
             state: self,
@@ -35,12 +32,14 @@ impl State {
         if !self.is_sound() {
             return Latent::Refused(14);
         }
-        let setup = self.setup;
-        let counters = self.counters;
-        if counters::latent_error(self.base, counters, setup.paths, setup.difference) {
-            Latent::Error
-        } else {
-            Latent::Agrees
+        if counters::latent_error(
+            self.base,
+            self.counters,
+            self.setup.paths,
+            self.setup.difference,
+        ) {
+            return Latent::Error;
         }
+        Latent::Agrees
     }
 }

@@ -6,7 +6,6 @@ use crate::Change;
 use crate::Changed;
 use crate::State;
 use counters::Counters;
-use marks::Marks;
 use setup::Setup;
 use setup::Ticks;
 
@@ -43,25 +42,22 @@ impl State {
     pub(crate) fn anew(self) -> State
         ensures { λ r. ⌜ r ≡ resetState self ⌝ }
     {
-        let setup = self.setup;
-        let counters = self.counters;
-        clear(setup, counters::count_reset(counters), self.base)
+        clear(self.setup, counters::count_reset(self.counters), self.base)
     }
 
-    pub fn reset(self) -> Changed
+    pub fn reset(mut self) -> Changed
         ensures { λ r. ⌜ Resets self r ⌝ }
     {
-        if self.is_sound() {
-            let state = self.anew();
-            Changed {
-                change: Change::Done,
-                state,
-            }
-        } else {
-            Changed {
+        if !self.is_sound() {
+            return Changed {
                 change: Change::Refused(14),
                 state: self,
-            }
+            };
+        }
+        self = self.anew();
+        Changed {
+            change: Change::Done,
+            state: self,
         }
     }
 }

@@ -1,42 +1,57 @@
 // Which states are sound: every call but `fresh` asks this first.
 ghost use mathlib.Core.Path.{_≡_};
-ghost use mathlib.Core.Bool.{cond, _&&_};
+ghost use mathlib.Core.Bool.{cond, not, _&&_, _||_};
 ghost use lib.Dec.{leb, eqb};
 ghost use Rattle.recovery.specs.Soundness.{sound};
 use crate::State;
-use marks::Marks;
-use setup::Setup;
-use setup::Ticks;
 
-// What take-any means, and what holds when it is off: `bare` is that no mark is set, `marked` that mark 0 is set or the rule is match.
-fn awaits_rightly(take_any: bool, newest: u16, bare: bool, left: u64, marked: bool) -> bool
-    ensures { λ r. ⌜ r ≡ cond «take_any» (eqb newest 65535 && bare) (leb 1 left && marked) ⌝ }
+// The tests of a sound state, of its parts: `above` is that the marks at H and above are clear, `bare` that all are, and `first` that mark 0
+// is set.
+fn parts_agree(
+    refusal: u8,
+    rule: u8,
+    above: bool,
+    bare: bool,
+    first: bool,
+    take_any: bool,
+    newest: u16,
+    left: u64,
+    full: u64,
+) -> bool
+    ensures { λ r.
+        ⌜ r ≡ eqb refusal 0 && above
+        && cond «take_any» (eqb newest 65535 && bare) (leb 1 left && (not (eqb rule 0) || first))
+        && (eqb rule 0 || bare) && leb left full ⌝ }
 {
-    if take_any {
-        (newest == 65535) & bare
-    } else {
-        (1 <= left) & marked
-    }
+    let vector = rule == 0;
+    let idle = (newest == 65535) & bare;
+    let busy = (1 <= left) & (!vector | first);
+    (refusal == 0)
+        & above
+        & ((take_any & idle) | (!take_any & busy))
+        & (vector | bare)
+        & (left <= full)
 }
 
 impl State {
     pub(crate) fn is_sound(self) -> bool
         ensures { λ r. ⌜ r ≡ sound self ⌝ }
     {
-        let setup = self.setup;
-        if setup.check() != 0 {
-            return false;
-        }
-        let marks = self.marks;
-        let left = self.left;
-        let full = setup.full();
-        let bare = marks::clear_from(marks, 0);
-        let vector = setup.rule == 0;
-        let marked = !vector | marks::is_set(marks, 0);
-        let awaits = awaits_rightly(self.take_any, self.newest, bare, left.0, marked);
-        marks::clear_from(marks, setup.history as u32)
-            & awaits
-            & (vector | bare)
-            & (left.0 <= full.0)
+        let full = self.setup.full();
+        let refusal = self.setup.check();
+        let above = marks::clear_from(self.marks, self.setup.history as u32);
+        let bare = marks::clear_from(self.marks, 0);
+        let first = marks::is_set(self.marks, 0);
+        parts_agree(
+            refusal,
+            self.setup.rule,
+            above,
+            bare,
+            first,
+            self.take_any,
+            self.newest,
+            self.left.0,
+            full.0,
+        )
     }
 }

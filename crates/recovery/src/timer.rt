@@ -25,26 +25,25 @@ impl State {
                 state: self,
             };
         }
-        let left = self.left;
-        if left.0 == 0 {
-            Timed {
+        let ticks = self.left.0;
+        if ticks == 0 {
+            return Timed {
                 ticked: Ticked::Tick,
                 state: self,
-            }
-        } else if left.0 == 1 {
-            let state = self.anew();
-            Timed {
+            };
+        }
+        if ticks == 1 {
+            self = self.anew();
+            return Timed {
                 ticked: Ticked::Reset,
-                state,
-            }
-        } else {
-            let fewer = left.0 - 1;
-            let left = Ticks(fewer);
-            self.left = left;
-            Timed {
-                ticked: Ticked::Tick,
                 state: self,
-            }
+            };
+        }
+        let fewer = ticks - 1;
+        self.left.0 = fewer;
+        Timed {
+            ticked: Ticked::Tick,
+            state: self,
         }
     }
 }

@@ -9,6 +9,7 @@ use Rattle.rules.specs.NoNumber.{HearsNoNumber}
 use Rattle.rules.specs.TakeAny.{HearsFirst}
 use Rattle.rules.specs.Vector.{HearsVector}
 use Rattle.rules.specs.Matching.{HearsMatch}
+use Rattle.rules.specs.ByRule.{HearsNumbered}
 
 module _ {a b : Effect} where
   pub hears-no-number-one : (taken newest : ℕ) (marks : Marks) → HearsNoNumber taken newest marks a → HearsNoNumber taken newest marks b → a ≡ b
@@ -23,3 +24,7 @@ module _ {a b : Effect} where
 
   pub hears-match-one : (newest : ℕ) (marks : Marks) (number : ℕ) → HearsMatch newest marks number a → HearsMatch newest marks number b → a ≡ b
   hears-match-one newest marks number = one
+
+  pub hears-numbered-one : (rule h : ℕ) (takeAny : Bool) (newest : ℕ) (marks : Marks) (number : ℕ)
+      → HearsNumbered rule h takeAny newest marks number a → HearsNumbered rule h takeAny newest marks number b → a ≡ b
+  hears-numbered-one rule h takeAny newest marks number = one

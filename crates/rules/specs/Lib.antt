@@ -4,4 +4,5 @@ pub mod NoNumber
 pub mod TakeAny
 pub mod Vector
 pub mod Matching
+pub mod ByRule
 pub mod Places

@@ -2,6 +2,7 @@
 // state is made of that in the room above.
 //
 // Each call takes any numbers and any marks at all, and always has an answer.
+mod by_rule;
 mod difference;
 mod effects;
 mod matching;
@@ -21,6 +22,7 @@ pub struct Effect {
     pub lost: u64,
 }
 
+pub use by_rule::hear_numbered;
 pub use matching::hear_match;
 pub use no_number::hear_no_number;
 pub use take_any::hear_first;

@@ -15,6 +15,7 @@ use Rattle.rules.specs.Vector.{late, onward, byDifference, vector}
 use Rattle.recovery.specs.Timer.{restarted}
 use Rattle.recovery.specs.Packets.{numbered, settled, heard, packetOf}
 use Rattle.rules.specs.TakeAny.{firstMarks, first}
+use Rattle.rules.specs.ByRule.{byRule}
 use Rattle.counters.specs.LatentErrors.{less, absolute, figure, exceeds}
 use Rattle.recovery.specs.LatentErrors.{latentError, latentTestOf}
 use Rattle.octets.specs.Checks.{verdict}
@@ -57,7 +58,7 @@ printed c = octetsOf (c .lines)
 
 pub as-printed : map given cases ≡ map printed cases
 unfolding be16 be32 mark none clearFrom set reach moved lostBy slid lostIn fullTicks ticksOf setupChecks checked isVector plus freshState
-    begunFrom awaits sound apart signed difference late onward byDifference vector restarted numbered firstMarks first counted settled heard
+    begunFrom awaits sound apart signed difference late onward byDifference vector restarted byRule numbered firstMarks first counted settled heard
     packetOf less absolute figure exceeds latentError latentTestOf cases setup outputOf tapeChecks verdict played linesFrom figures outcomeAt eventAt
     checks begins known width setupAt hears acts runs text faultText labels listed countersText decimalIn
 as-printed = refl

@@ -1,6 +1,4 @@
 -- `State::is_sound` meets its contract. Assumes nothing.
-use mathlib.Core.Path.{sym, _∙_}
-use borrow.Author.Tests.{ne-eqb, eq-eqb}
 use Rattle.setup.specs.Range.{isVector}
 use Rattle.recovery.specs.Soundness.{awaits, sound}
 use borrow.Author.Needs.{needs}
@@ -10,29 +8,23 @@ use Rattle.recovery.proofs.State.is_sound.Tie as tie
 cast-clear-from : tie.Need-cast-clear-from
 cast-clear-from c = search needs
 
--- the setup is out of range
+-- each part that is asked for is the definition's
 returns : tie.Need-returns
-unfolding sound
-returns c = rw (← c .before .check .ensures, ne-eqb _ _ (c .if1 .taken))
-
--- the setup is in range: the other tests, one by one
-returns-2 : tie.Need-returns-2
 unfolding sound awaits isVector
-returns-2 c =
-    let above = c .before .before in
-    let awaited = above .before .before in
-    let set = awaited .before in
-    let bare = set .before .before in
-    let full = bare .before in
-    let in-range = full .before .before .before in
+returns c =
+    let first = c .before in
+    let bare = first .before in
+    let above = bare .before in
+    let refusal = above .before .before in
+    let full = refusal .before in
     rw (
-      above .clear-from2 .ensures,
-      awaited .awaits-rightly .ensures,
-      set .is-set .ensures,
-      bare .clear-from .ensures,
-      full .full .ensures,
-      eq-eqb _ _ (sym (in-range .before .check .ensures) ∙ in-range .if1 .left),
+      ← first .is-set .ensures,
+      ← bare .clear-from2 .ensures,
+      ← above .clear-from .ensures,
+      ← refusal .check .ensures,
+      ← full .full .ensures,
     )
+    (c .parts-agree .ensures)
 
 pub is-sound-spec : {M : Type 1} → statement M
-is-sound-spec = tie.close (search (tie.spec, cast-clear-from, returns, returns-2, needs))
+is-sound-spec = tie.close (search (tie.spec, cast-clear-from, returns, needs))

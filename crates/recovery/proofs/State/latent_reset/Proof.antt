@@ -21,7 +21,7 @@ returns-2 : tie.Need-returns-2
 unfolding latentResetOf rebased
 returns-2 c =
     let figure = c .before in
-    rw (sound-here (figure .before .before .before), ← c .count-latent-reset .ensures, ← figure .figure .ensures)
+    rw (sound-here (figure .before), ← c .count-latent-reset .ensures, ← figure .figure .ensures)
 
 pub latent-reset-spec : {M : Type 1} → statement M
 latent-reset-spec = tie.close (search (tie.spec, returns, returns-2, needs))

@@ -21,14 +21,14 @@ returns-2 : tie.Need-returns-2
 unfolding latentTestOf latentError
 returns-2 c =
     let tested = c .before in
-    rw (sound-here (tested .before .before .before), ← tested .latent-error .ensures, c .if2 .taken)
+    rw (sound-here (tested .before), ← tested .latent-error .ensures, c .if2 .taken)
 
 -- none
 returns-3 : tie.Need-returns-3
 unfolding latentTestOf latentError
 returns-3 c =
     let tested = c .before in
-    rw (sound-here (tested .before .before .before), ← tested .latent-error .ensures, c .if2 .left)
+    rw (sound-here (tested .before), ← tested .latent-error .ensures, c .if2 .left)
 
 pub latent-test-spec : {M : Type 1} → statement M
 latent-test-spec = tie.close (search (tie.spec, returns, returns-2, returns-3, needs))

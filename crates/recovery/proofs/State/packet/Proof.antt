@@ -2,8 +2,9 @@
 use mathlib.Core.Path.{_≡_, _∙_}
 use mathlib.Core.Bool.{true}
 use Rattle.octets.proofs.Bools.{said-yes, said-no}
+use Rattle.setup.specs.Range.{isVector}
 use Rattle.recovery.specs.Soundness.{sound}
-use Rattle.recovery.specs.Packets.{heard, packetOf}
+use Rattle.recovery.specs.Packets.{numbered, heard, packetOf}
 use borrow.Author.Needs.{needs}
 use Rattle.recovery.proofs.State.packet.Statement.{statement}
 use Rattle.recovery.proofs.State.packet.Tie as tie
@@ -24,17 +25,17 @@ returns c = rw (said-no (c .before .is-sound .ensures) (c .if1 .taken))
 
 -- a packet with a number
 returns-2 : tie.Need-returns-2
-unfolding packetOf heard
+unfolding packetOf heard numbered isVector
 returns-2 c =
     let told = c .before .before .before in
-    rw (sound-here (told .before .before .before .before), told .packet .given .1) (c .settle .ensures ∙ rw (c .before .hear-numbered .ensures))
+    rw (sound-here (told .before .before), told .packet .given .1) (c .settle .ensures ∙ rw (c .before .hear-numbered .ensures))
 
 -- one without
 returns-3 : tie.Need-returns-3
 unfolding packetOf heard
 returns-3 c =
     let told = c .before .before in
-    rw (sound-here (told .before .before .before .before), told .enum-told .given .1) (c .settle2 .ensures ∙ rw (c .before .hear-no-number .ensures))
+    rw (sound-here (told .before .before), told .enum-told .given .1) (c .settle2 .ensures ∙ rw (c .before .hear-no-number .ensures))
 
 pub packet-spec : {M : Type 1} → statement M
 packet-spec = tie.close (search (tie.spec, enum-known-packet, enum-told, returns, returns-2, returns-3, needs))

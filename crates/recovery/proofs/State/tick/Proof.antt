@@ -24,21 +24,23 @@ returns c = rw (said-no (c .before .is-sound .ensures) (c .if1 .taken))
 -- no ticks are left
 returns-2 : tie.Need-returns-2
 unfolding tickOf timed
-returns-2 c = rw (sound-here (c .before .before .before), eq-eqb _ 0 (c .if2 .taken))
+returns-2 c = rw (sound-here (c .before), eq-eqb _ 0 (c .if2 .taken))
 
 -- the last tick: a reset
 returns-3 : tie.Need-returns-3
 unfolding tickOf timed resetState
 returns-3 c =
-    let some = c .before .before .before in
-    rw (sound-here (some .before .before .before), ne-eqb _ 0 (some .if2 .left), eq-eqb _ 1 (c .before .if3 .taken), c .anew .ensures)
+    let last = c .before in
+    let some = last .before in
+    rw (sound-here (some .before), ne-eqb _ 0 (some .if2 .left), eq-eqb _ 1 (last .if3 .taken), c .anew .ensures)
 
 -- one tick less
 returns-4 : tie.Need-returns-4
 unfolding tickOf timed
 returns-4 c =
-    let some = c .before .before .before in
-    rw (sound-here (some .before .before .before), ne-eqb _ 0 (some .if2 .left), ne-eqb _ 1 (c .before .if3 .left))
+    let more = c .before in
+    let some = more .before in
+    rw (sound-here (some .before), ne-eqb _ 0 (some .if2 .left), ne-eqb _ 1 (more .if3 .left))
 
 pub tick-spec : {M : Type 1} → statement M
 tick-spec = tie.close (search (tie.spec, sub-fewer, returns, returns-2, returns-3, returns-4, needs))

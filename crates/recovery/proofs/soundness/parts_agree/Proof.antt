@@ -1,0 +1,11 @@
+-- `soundness::parts_agree` meets its contract. Assumes nothing.
+use Rattle.octets.proofs.Bools.{chosen}
+use borrow.Author.Needs.{needs}
+use Rattle.recovery.proofs.soundness.parts_agree.Statement.{statement}
+use Rattle.recovery.proofs.soundness.parts_agree.Tie as tie
+
+returns : tie.Need-returns
+returns c = rw (chosen)
+
+pub parts-agree-spec : {M : Type 1} → statement M
+parts-agree-spec = tie.close (tie.spec returns)
