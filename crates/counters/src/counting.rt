@@ -22,8 +22,8 @@ pub fn none() -> Counters
 pub fn count(mut k: Counters, tagless: u64, e: Effect) -> Counters
     ensures { λ r. ⌜ Counts k tagless e r ⌝ }
 {
-    k.passed = std::num::wrapping_add_u64(k.passed, e.passes as u64);
     k.discarded = std::num::wrapping_add_u64(k.discarded, !e.passes as u64);
+    k.passed = std::num::wrapping_add_u64(k.passed, e.passes as u64);
     k.order = std::num::wrapping_add_u64(k.order, e.order);
     k.rogue = std::num::wrapping_add_u64(k.rogue, e.rogue);
     k.lost = std::num::wrapping_add_u64(k.lost, e.lost);

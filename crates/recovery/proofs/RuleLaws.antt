@@ -16,7 +16,8 @@ module _ (s : State) (number : ℕ) where
   unfolding numbered byRule
   by-take-any e = choose-first _ _ e
 
-  pub by-vector : s .«take_any» ≡ false → isVector (s .setup) ≡ true → numbered s number ≡ vector (s .setup .history) (s .newest) (s .marks) number
+  pub by-vector : s .«take_any» ≡ false → isVector (s .setup) ≡ true
+      → numbered s number ≡ vector (s .setup .history) (s .newest) (s .marks) number
   unfolding numbered byRule
   by-vector e v = choose-second _ _ e ∙ choose-first _ _ v
 

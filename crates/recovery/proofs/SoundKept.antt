@@ -48,7 +48,8 @@ cleared-sound setup counters base e =
 abbrev awaiting : Bool → Bool → Bool → ℕ → Bool
 awaiting takeAny bare marked left = cond takeAny bare (leb 1 left && marked)
 
-awaits-on : (takeAny bare marked : Bool) (left later : ℕ) → 1 ≤ later → awaiting takeAny bare marked left ≡ true → awaiting takeAny bare marked later ≡ true
+awaits-on : (takeAny bare marked : Bool) (left later : ℕ) → 1 ≤ later → awaiting takeAny bare marked left ≡ true
+    → awaiting takeAny bare marked later ≡ true
 awaits-on true bare marked left later p e = e
 awaits-on false bare marked left later p e = and-true (le-leb 1 later p) (both (leb 1 left) marked e .1)
 
@@ -137,7 +138,8 @@ module _ (s : State) (ok : Sound s) where
     vector-sound number v =
         let effect = vector (s .setup .history) (s .newest) (s .marks) number in
         let marked : eqb (mark 0 (s .marks)) 1 ≡ true = rw v at (both (leb 1 (s .left .0)) _ when-off .1) in
-        let kept = vector-keeps (s .setup .history) history-low history-high (s .newest) (s .marks) (ok .clear-above, eqb-true _ _ marked) number in
+        let h = s .setup .history in
+        let kept = vector-keeps h history-low history-high (s .newest) (s .marks) (ok .clear-above, eqb-true _ _ marked) number in
         off-sound effect (kept .0) (rw v) (rw (v, eq-eqb _ _ (kept .1))) (left-some (effect .passes) left)
 
     match-sound : (number : ℕ) → isVector (s .setup) ≡ false → After false 0 (match (s .newest) (s .marks) number)

@@ -28,13 +28,16 @@ module _ (s : State) (ok : sound s ≡ true) where
   unfolding heard
   numbered-answers number = packet-answers s ok (Numbered number)
 
-  pub first-answers : (number : ℕ) → s .«take_any» ≡ true → packetOf s (Numbered number) ≡ settled s false 0 (first (isVector (s .setup)) number)
+  pub first-answers : (number : ℕ) → s .«take_any» ≡ true
+      → packetOf s (Numbered number) ≡ settled s false 0 (first (isVector (s .setup)) number)
   first-answers number any = numbered-answers number ∙ ap (settled s false 0) (by-take-any s number any)
 
-  pub vector-answers : (number : ℕ) → s .«take_any» ≡ false → isVector (s .setup) ≡ true → packetOf s (Numbered number) ≡ settled s false 0 (vector (s .setup .history) (s .newest) (s .marks) number)
+  pub vector-answers : (number : ℕ) → s .«take_any» ≡ false → isVector (s .setup) ≡ true
+      → packetOf s (Numbered number) ≡ settled s false 0 (vector (s .setup .history) (s .newest) (s .marks) number)
   vector-answers number off rule = numbered-answers number ∙ ap (settled s false 0) (by-vector s number off rule)
 
-  pub match-answers : (number : ℕ) → s .«take_any» ≡ false → isVector (s .setup) ≡ false → packetOf s (Numbered number) ≡ settled s false 0 (match (s .newest) (s .marks) number)
+  pub match-answers : (number : ℕ) → s .«take_any» ≡ false → isVector (s .setup) ≡ false
+      → packetOf s (Numbered number) ≡ settled s false 0 (match (s .newest) (s .marks) number)
   match-answers number off rule = numbered-answers number ∙ ap (settled s false 0) (by-match s number off rule)
 
   pub tagless-answers : packetOf s Tagless ≡ settled s (s .«take_any») 1 (unnumbered (s .setup .taken) (s .newest) (s .marks))

@@ -67,7 +67,8 @@ taken setup (Tagless ∷ older) = taken setup older + cond (eqb (setup .taken) 1
 -- packets passed, plus places lost, plus those still open". What has happened in a span up to any one event is a span, so "it holds after
 -- each event".
 pub record Accounted (h : ℕ) (places : List ℕ) (start : State) (packets : List Packet) (s : State) : Type 0 where
-  pub next : (number : ℕ) (r : Heard) → number < 65536 → Hears s (Numbered number) r → r .verdict ≡ cond (passes h places number) Pass Discard
+  pub next : (number : ℕ) (r : Heard) → number < 65536 → Hears s (Numbered number) r
+      → r .verdict ≡ cond (passes h places number) Pass Discard
   pub passed-grown : Grown (start .counters .passed) (length places + taken (start .setup) packets) (s .counters .passed)
   pub lost-grown : Grown (start .counters .lost) (lost h places) (s .counters .lost)
   pub sum-closes : window h places + movedOn places ≡ length places + lost h places + stillOpen h places

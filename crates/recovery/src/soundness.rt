@@ -5,8 +5,8 @@ ghost use lib.Dec.{leb, eqb};
 ghost use Rattle.recovery.specs.Soundness.{sound};
 use crate::State;
 
-// The tests of a sound state, of its parts: `above` is that the marks at H and above are clear, `bare` that all are, and `first` that mark 0
-// is set.
+// The tests of a sound state, of its parts: `above` is that the marks at H and above are clear, `bare` that all are, and `first` that mark
+// 0 is set.
 fn parts_agree(
     refusal: u8,
     rule: u8,

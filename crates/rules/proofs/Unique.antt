@@ -12,7 +12,8 @@ use Rattle.rules.specs.Matching.{HearsMatch}
 use Rattle.rules.specs.ByRule.{HearsNumbered}
 
 module _ {a b : Effect} where
-  pub hears-no-number-one : (taken newest : ℕ) (marks : Marks) → HearsNoNumber taken newest marks a → HearsNoNumber taken newest marks b → a ≡ b
+  pub hears-no-number-one : (taken newest : ℕ) (marks : Marks) → HearsNoNumber taken newest marks a
+      → HearsNoNumber taken newest marks b → a ≡ b
   hears-no-number-one taken newest marks = one
 
   pub hears-first-one : (vector : Bool) (number : ℕ) → HearsFirst vector number a → HearsFirst vector number b → a ≡ b
@@ -22,7 +23,8 @@ module _ {a b : Effect} where
       → HearsVector h newest marks number b → a ≡ b
   hears-vector-one h newest marks number = one
 
-  pub hears-match-one : (newest : ℕ) (marks : Marks) (number : ℕ) → HearsMatch newest marks number a → HearsMatch newest marks number b → a ≡ b
+  pub hears-match-one : (newest : ℕ) (marks : Marks) (number : ℕ) → HearsMatch newest marks number a
+      → HearsMatch newest marks number b → a ≡ b
   hears-match-one newest marks number = one
 
   pub hears-numbered-one : (rule h : ℕ) (takeAny : Bool) (newest : ℕ) (marks : Marks) (number : ℕ)

@@ -11,9 +11,8 @@ pub fn hear_match(newest: u16, marks: Marks, number: u16) -> Effect
     ensures { λ r. ⌜ HearsMatch newest marks number r ⌝ }
 {
     if number == newest {
-        discard(newest, marks, 0)
-    } else {
-        let far = apart_by(newest, number);
-        accept(number, marks, (far != 1) as u64)
+        return discard(newest, marks, 0);
     }
+    let far = apart_by(newest, number);
+    accept(number, marks, (far != 1) as u64)
 }

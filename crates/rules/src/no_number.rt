@@ -10,8 +10,7 @@ pub fn hear_no_number(taken: u8, newest: u16, marks: Marks) -> Effect
     ensures { λ r. ⌜ HearsNoNumber taken newest marks r ⌝ }
 {
     if taken == 1 {
-        accept(newest, marks, 0)
-    } else {
-        discard(newest, marks, 0)
+        return accept(newest, marks, 0);
     }
+    discard(newest, marks, 0)
 }

@@ -15,12 +15,12 @@ fn hear_behind(history: u32, newest: u16, marks: Marks, k: u32) -> Effect
     ensures { λ r. ⌜ r ≡ cond (leb history k) (discarded newest marks 1) (late newest marks k) ⌝ }
 {
     if history <= k {
-        discard(newest, marks, 1)
-    } else if marks::is_set(marks, k) {
-        discard(newest, marks, 0)
-    } else {
-        accept(newest, marks::set(marks, k), 1)
+        return discard(newest, marks, 1);
     }
+    if marks::is_set(marks, k) {
+        return discard(newest, marks, 0);
+    }
+    accept(newest, marks::set(marks, k), 1)
 }
 
 // d > 0.
@@ -31,8 +31,7 @@ fn hear_ahead(history: u32, newest: u16, marks: Marks, number: u16, d: u32) -> E
         return discard(newest, marks, 1);
     }
     let slid = marks::slide(marks, history, d);
-    let moved = slid.marks;
-    let now = marks::set(moved, 0);
+    let now = marks::set(slid.marks, 0);
     let order = (d != 1) as u64;
     Effect {
         passes: true,
@@ -50,10 +49,10 @@ pub fn hear_vector(history: u32, newest: u16, marks: Marks, number: u16) -> Effe
 {
     let far = apart_by(newest, number);
     if far == 0 {
-        hear_behind(history, newest, marks, 0)
-    } else if far < 32768 {
-        hear_ahead(history, newest, marks, number, far)
-    } else {
-        hear_behind(history, newest, marks, 65536 - far)
+        return hear_behind(history, newest, marks, 0);
     }
+    if far < 32768 {
+        return hear_ahead(history, newest, marks, number, far);
+    }
+    hear_behind(history, newest, marks, 65536 - far)
 }

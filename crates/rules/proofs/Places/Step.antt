@@ -139,7 +139,8 @@ module _ (h p : ℕ) (ps : List ℕ) (hs : 1 ≤ h) (room : h ≤ most) (number 
           by-cases (leb h k)
           (λ t.
           let beyond : h ≤ k = leb-true h k t in
-          rw (rogue-ahead h newest marks number k e beyond) (stays newest marks 1 f (far h p ps number (near-false h q N (inl (omega arith))))))
+          let off = far h p ps number (near-false h q N (inl (omega arith))) in
+          rw (rogue-ahead h newest marks number k e beyond) (stays newest marks 1 f off))
           (λ t.
           let less : k < h = leb-false h k t in
           rw (goes-onward h newest marks number k e less) (onward-obeys newest marks k f pos less there))
@@ -147,7 +148,8 @@ module _ (h p : ℕ) (ps : List ℕ) (hs : 1 ≤ h) (room : h ≤ most) (number 
           by-cases (leb h k)
           (λ t.
           let beyond : h ≤ k = leb-true h k t in
-          rw (rogue-behind h newest marks number k e beyond) (stays newest marks 1 f (far h p ps number (near-false h q N (inr (omega arith))))))
+          let off = far h p ps number (near-false h q N (inr (omega arith))) in
+          rw (rogue-behind h newest marks number k e beyond) (stays newest marks 1 f off))
           (λ t.
           let less : k < h = leb-false h k t in
           rw (comes-late h newest marks number k e less) (late-obeys newest marks k f less there))

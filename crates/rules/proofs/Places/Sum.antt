@@ -6,7 +6,8 @@ use Prim.Native.Nat.{ℕ, _+_, _-_, _≤_, _<_, max}
 use native.Mathlib.Omega.{arith}
 use lib.ListN.{length}
 use Rattle.octets.proofs.Bools.{either}
-use Rattle.rules.specs.Places.{among, newestPlace, firstPlace, place, passes, after, passed, unpassed, window, movedOn, lost, stillOpen}
+use Rattle.rules.specs.Places.{among, newestPlace, firstPlace, place, passes, after, passed, unpassed}
+use Rattle.rules.specs.Places.{window, movedOn, lost, stillOpen}
 use Rattle.rules.proofs.Places.Passing.{passes-above, passes-new}
 use Rattle.rules.proofs.Places.Counting.{Held, held-wider, held-sum, unpassed-split}
 
@@ -42,7 +43,9 @@ kept-next h q p ps hs kept near new =
     record {
       turn = rw (first-next q p ps) (kept .turn);
       up = rw (first-next q p ps, newest-next q (p ∷ ps)) (omega arith);
-      held = rw (first-next q p ps, newest-next q (p ∷ ps)) (omega arith, omega arith, new, held-wider _ _ _ (p ∷ ps) (omega arith) (kept .held));
+      held =
+          rw (first-next q p ps, newest-next q (p ∷ ps))
+          (omega arith, omega arith, new, held-wider _ _ _ (p ∷ ps) (omega arith) (kept .held));
     }
 
 pub kept-after : (h p : ℕ) (ps : List ℕ) (number : ℕ) → h ≤ 65536 → Kept h (p ∷ ps) → Kept h (after h (p ∷ ps) number)

@@ -5,11 +5,11 @@ use borrow.Author.Needs.{needs}
 use Rattle.counters.proofs.counting.count.Statement.{statement}
 use Rattle.counters.proofs.counting.count.Tie as tie
 
-cast-passed : tie.Need-cast-wrapping-add-u64
-cast-passed c = search needs
-
-cast-discarded : tie.Need-cast-wrapping-add-u64-2
+cast-discarded : tie.Need-cast-wrapping-add-u64
 cast-discarded c = search needs
+
+cast-passed : tie.Need-cast-wrapping-add-u64-2
+cast-passed c = search needs
 
 returns : tie.Need-returns
 unfolding plus counted
@@ -17,11 +17,11 @@ returns c =
     let lost = c .before in
     let rogue = lost .before in
     let order = rogue .before in
-    let discarded = order .before in
-    let passed = discarded .before .before in
+    let passed = order .before in
+    let discarded = passed .before .before in
     rw (
-      passed .wrapping-add-u64 .ensures,
-      discarded .wrapping-add-u642 .ensures,
+      discarded .wrapping-add-u64 .ensures,
+      passed .wrapping-add-u642 .ensures,
       order .wrapping-add-u643 .ensures,
       rogue .wrapping-add-u644 .ensures,
       lost .wrapping-add-u645 .ensures,
@@ -31,4 +31,4 @@ returns c =
     )
 
 pub count-spec : {M : Type 1} → statement M
-count-spec = tie.close (search (tie.spec, cast-passed, cast-discarded, returns, needs))
+count-spec = tie.close (search (tie.spec, cast-discarded, cast-passed, returns, needs))

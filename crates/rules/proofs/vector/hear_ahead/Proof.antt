@@ -18,7 +18,7 @@ returns c = rw (le-leb _ _ (c .before .if1 .taken)) (c .discard .ensures)
 returns-2 : tie.Need-returns-2
 unfolding onward
 returns-2 c =
-    let slid = c .before .before in
+    let slid = c .before in
     let at-start = slid .before .before in
     rw (
       lt-leb _ _ (slid .before .if1 .left),
