@@ -3,5 +3,4 @@ pub mod Resets
 pub mod Timer
 pub mod Packets
 pub mod LatentErrors
-pub mod Calls
 pub mod Spans

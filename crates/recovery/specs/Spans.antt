@@ -73,5 +73,6 @@ pub record Accounted (h : ℕ) (places : List ℕ) (start : State) (packets : Li
   pub lost-grown : Grown (start .counters .lost) (lost h places) (s .counters .lost)
   pub sum-closes : window h places + movedOn places ≡ length places + lost h places + stillOpen h places
 
+-- "All this is counted from the list of packets alone": the places that passed are those of the numbers in it
 abbrev pub Accounts : State → List Packet → State → Type 0
 Accounts start packets s = Accounted (start .setup .history) (passed (start .setup .history) (numbers packets)) start packets s

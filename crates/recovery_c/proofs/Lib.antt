@@ -1,4 +1,3 @@
-pub mod Held
 pub mod Told
 pub mod Kept
 pub mod Unique

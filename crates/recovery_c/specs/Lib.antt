@@ -1,2 +1,1 @@
-pub mod States
-pub mod Steps
+pub mod Recoveries

@@ -20,7 +20,8 @@ use Rattle.counters.specs.LatentErrors.{less, absolute, figure, exceeds}
 use Rattle.recovery.specs.LatentErrors.{latentError, latentTestOf}
 use Rattle.octets.specs.Checks.{verdict}
 use Rattle.lines.specs.Lines.{octetsOf, decimalIn, text, faultText, labels, counted as listed, countersText}
-use Rattle.tape.specs.Event.{known, width, setupAt, begins, hears, acts, runs, checks, eventAt, outcomeAt}
+use Rattle.events.specs.Event.{known, width, checks}
+use Rattle.turns.specs.Turn.{setupAt, callAt, begins, runs, eventAt, outcomeAt}
 use Rattle.tape.specs.Player.{figures, linesFrom, played, tapeChecks, outputOf}
 
 -- a tape and what it prints
@@ -58,7 +59,7 @@ printed c = octetsOf (c .lines)
 
 pub as-printed : map given cases ≡ map printed cases
 unfolding be16 be32 mark none clearFrom set reach moved lostBy slid lostIn fullTicks ticksOf setupChecks checked isVector plus freshState
-    begunFrom awaits sound apart signed difference late onward byDifference vector restarted byRule numbered firstMarks first counted settled heard
-    packetOf less absolute figure exceeds latentError latentTestOf cases setup outputOf tapeChecks verdict played linesFrom figures outcomeAt eventAt
-    checks begins known width setupAt hears acts runs text faultText labels listed countersText decimalIn
+    begunFrom awaits sound apart signed difference late onward byDifference vector restarted byRule numbered firstMarks first counted settled
+    heard packetOf less absolute figure exceeds latentError latentTestOf cases setup outputOf tapeChecks verdict played linesFrom figures
+    outcomeAt eventAt checks begins known width setupAt callAt runs text faultText labels listed countersText decimalIn
 as-printed = refl

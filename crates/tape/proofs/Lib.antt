@@ -3,4 +3,3 @@ pub mod Played
 pub mod Ran
 pub mod Examples
 pub mod Unique
-pub mod NeverFourteen

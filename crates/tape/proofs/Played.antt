@@ -1,7 +1,7 @@
 -- A tape while it is played: what the page holds, and what is still to come. Assumes nothing.
 use Prim.Native.Nat.{ℕ, zero, suc, _+_, _*_, _≤_, _<_}
 use native.Mathlib.Omega.{arith}
-use mathlib.Core.Path.{_≡_, refl, sym, ap, _∙_}
+use mathlib.Core.Path.{_≡_, refl, sym, _∙_}
 use mathlib.Core.List.{List, [], _++_, append-assoc, append-nil}
 use lib.ListN.{length, take, getD}
 use Rattle.recovery.specs.declared.State.{State}
@@ -10,8 +10,12 @@ use Rattle.lines.specs.declared.Line.{Line}
 use Rattle.lines.specs.Lines.{text, faultText, countersText, longest}
 use Rattle.lines.specs.Page.{Writes}
 use Rattle.lines.proofs.Table.{line-word}
-use Rattle.lines.proofs.Room.{Shown, shown}
-use Rattle.tape.specs.Event.{width, next, fault, end, Bench, waits, running, outcomeAt}
+use Rattle.lines.proofs.Room.{shown}
+use Rattle.events.specs.Event.{width}
+use Rattle.turns.specs.declared.Bench.{Bench}
+use Rattle.turns.specs.declared.Bench.the-variants.{Waits, Running}
+use Rattle.turns.specs.declared.Outcome.the-variants.{Next, Fault, End}
+use Rattle.turns.specs.Turn.{outcomeAt}
 use Rattle.tape.specs.Player.{figures, linesFrom, played, enough, Holds}
 use Rattle.tape.proofs.Turns.{next-within, next-lines, fault-lines, end-lines}
 
@@ -25,7 +29,7 @@ pub record Playing (tape page : List ℕ) (at n : ℕ) (bench : Bench) : Type 0 
   pub more : length tape < at + most
   pub texts : take n page ++ linesFrom most tape at bench ≡ played tape
 
-pub starts : (tape page : List ℕ) → enough ≡ length page → Playing tape page 0 0 waits
+pub starts : (tape page : List ℕ) → enough ≡ length page → Playing tape page 0 0 Waits
 unfolding played
 starts tape page e =
     record {
@@ -58,17 +62,17 @@ module _ {tape page : List ℕ} {at n : ℕ} {bench : Bench} (small : length tap
         texts = sym (append-nil (take r later)) ∙ joined w [] _ (e k ∙ sym (append-nil line)) texts;
       }
 
-  pub ends-faulty : {number r : ℕ} {later : List ℕ} → Writes (faultText number) page n r later → outcomeAt tape at bench ≡ fault number
+  pub ends-faulty : {number r : ℕ} {later : List ℕ} → Writes (faultText number) page n r later → outcomeAt tape at bench ≡ Fault number
       → Holds (played tape) r later
   ends-faulty w e = ends-by w (p .most) (p .more) (p .texts) (λ k. fault-lines tape at bench k e)
 
   pub ends-well : {k : Counters} {r : ℕ} {later : List ℕ} → Writes (countersText (figures k)) page n r later
-      → outcomeAt tape at bench ≡ end k → Holds (played tape) r later
+      → outcomeAt tape at bench ≡ End k → Holds (played tape) r later
   ends-well w e = ends-by w (p .most) (p .more) (p .texts) (λ m. end-lines tape at bench m e)
 
   goes-by : (line : Line) {r : ℕ} {later : List ℕ} → Writes (text line) page n r later → (m : ℕ) → length tape < at + m
-      → take n page ++ linesFrom m tape at bench ≡ played tape → {s : State} → outcomeAt tape at bench ≡ next line s
-      → Playing tape later (at + 1 + width (getD tape at 0)) r (running s)
+      → take n page ++ linesFrom m tape at bench ≡ played tape → {s : State} → outcomeAt tape at bench ≡ Next line s
+      → Playing tape later (at + 1 + width (getD tape at 0)) r (Running s)
   goes-by line w zero more texts e = absurd (omega (arith, p .within))
   goes-by line w (suc k) more texts e =
       let on = shown one-more w in
@@ -83,6 +87,6 @@ module _ {tape page : List ℕ} {at n : ℕ} {bench : Bench} (small : length tap
       }
 
   pub goes : {line : Line} {r : ℕ} {later : List ℕ} → Writes (text line) page n r later → {s : State}
-      → outcomeAt tape at bench ≡ next line s
-      → Playing tape later (at + 1 + width (getD tape at 0)) r (running s)
+      → outcomeAt tape at bench ≡ Next line s
+      → Playing tape later (at + 1 + width (getD tape at 0)) r (Running s)
   goes {line} w e = goes-by line w (p .most) (p .more) (p .texts) e

@@ -1,13 +1,14 @@
 -- A page that holds the output, put into the lent buffer. Assumes nothing.
 use Prim.Native.Nat.{ℕ, _≤_}
 use native.Mathlib.Omega.{arith}
-use mathlib.Core.Path.{_≡_, refl, sym, ap, subst, _∙_}
-use mathlib.Core.Bool.{Bool, true, false, cond}
+use mathlib.Core.Path.{_≡_, sym, ap, subst, _∙_}
+use mathlib.Core.Bool.{Bool, cond}
 use mathlib.Core.List.{List}
 use lib.ListN.{length, take, drop, length-append}
 use borrow.Author.Tests.{le-leb}
 use lib.Seq.{length-take-le}
 use Rattle.octets.specs.Copy.{fits, putIn, Puts}
+use Rattle.octets.proofs.Bools.{by-cases}
 use Rattle.tape.specs.declared.Written.{Written}
 use Rattle.tape.specs.declared.Written.the-variants as written
 use Rattle.tape.specs.Player.{enough, outputOf, Holds, Runs}
@@ -32,14 +33,13 @@ ran tape out {n} {page} {later} {r} h room p =
 
 -- a length that is answered fits the buffer
 pub within : (tape out : List ℕ) {n : ℕ} {later : List ℕ} → Runs tape out (written.Length n) later → n ≤ length later
-within tape out {n} {later} p = by (fits (outputOf tape) out) refl
-  where
-    by : (b : Bool) → fits (outputOf tape) out ≡ b → n ≤ length later
-    by true e =
-        let long : n ≡ length (outputOf tape) = is (rw e at (p .answer)) in
-        let put : later ≡ putIn (outputOf tape) out = rw e at (p .buffer) in
-        omega (arith, ap length put, length-append (outputOf tape) (drop (length (outputOf tape)) out))
-    by false e = refused (rw e at (p .answer))
+within tape out {n} {later} p =
+    by-cases (fits (outputOf tape) out)
+    (λ room.
+    let long : n ≡ length (outputOf tape) = is (rw room at (p .answer)) in
+    let put : later ≡ putIn (outputOf tape) out = rw room at (p .buffer) in
+    omega (arith, ap length put, length-append (outputOf tape) (drop (length (outputOf tape)) out)))
+    (λ short. refused (rw short at (p .answer)))
 
 -- a buffer of `enough` octets is never refused
 pub enough-room : (tape out : List ℕ) {r : Written} {later : List ℕ} → Runs tape out r later → enough ≤ length out

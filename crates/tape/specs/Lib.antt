@@ -1,2 +1,1 @@
-pub mod Event
 pub mod Player

@@ -12,7 +12,12 @@ use Rattle.counters.specs.declared.Counters.{Counters}
 use Rattle.lines.specs.Lines.{text, faultText, countersText}
 use Rattle.tape.specs.declared.Written.{Written}
 use Rattle.tape.specs.declared.Written.the-variants as written
-use Rattle.tape.specs.Event.{width, Outcome, next, fault, end, Bench, waits, running, outcomeAt}
+use Rattle.events.specs.Event.{width}
+use Rattle.turns.specs.declared.Bench.{Bench}
+use Rattle.turns.specs.declared.Bench.the-variants.{Waits, Running}
+use Rattle.turns.specs.declared.Outcome.{Outcome}
+use Rattle.turns.specs.declared.Outcome.the-variants.{Next, Fault, End}
+use Rattle.turns.specs.Turn.{outcomeAt}
 
 -- "eight 64-bit counters (passed, discarded, order, rogue, lost, tagless, resets, latent-resets)", in the order of the last line
 unfoldable pub figures : Counters → List ℕ
@@ -29,28 +34,30 @@ figures k =
 
 -- an event's line, and then what follows from the next state; a fault, and the counters, end the output
 abbrev pub followed : Outcome → (State → List ℕ) → List ℕ
-followed (next line s) rest = text line ++ rest s
-followed (fault number) rest = faultText number
-followed (end k) rest = countersText (figures k)
+followed (Next line s) rest = text line ++ rest s
+followed (Fault number) rest = faultText number
+followed (End k) rest = countersText (figures k)
 
 -- the lines from a place on, cut off after n of them
 unfoldable pub linesFrom : ℕ → List ℕ → ℕ → Bench → List ℕ
 linesFrom zero tape at bench = []
 linesFrom (suc n) tape at bench =
-    followed (outcomeAt tape at bench) (λ (s : State). linesFrom n tape (at + 1 + width (getD tape at 0)) (running s))
+    followed (outcomeAt tape at bench) (λ (s : State). linesFrom n tape (at + 1 + width (getD tape at 0)) (Running s))
 
 -- the lines of a whole tape: an event is one octet at least, so one line more than there are octets is always enough
 unfoldable pub played : List ℕ → List ℕ
-played tape = linesFrom (length tape + 1) tape 0 waits
+played tape = linesFrom (length tape + 1) tape 0 Waits
 
 -- "A program reads a tape of at most 4,096 octets": "26 is checked before all else on a tape"
 unfoldable pub tapeChecks : List ℕ → List Check
 tapeChecks tape = ltb 4096 (length tape) ⇒ 26 ∷ []
 
+-- a fault of the whole tape is its one line
 abbrev pub unlessRefused : Verdict → List ℕ → List ℕ
 unlessRefused good output = output
 unlessRefused (refuse number) output = faultText number
 
+-- the output of any tape
 unfoldable pub outputOf : List ℕ → List ℕ
 outputOf tape = unlessRefused (verdict (tapeChecks tape)) (played tape)
 

@@ -3,14 +3,10 @@ ghost use mathlib.Core.Path.{_≡_};
 ghost use Prim.Native.Nat.{_≤_};
 ghost use lib.ListN.{length};
 ghost use Rattle.tape.specs.Player.{figures as figuresOf, enough, played, outputOf, Holds, Runs};
-use crate::Said;
 use crate::Written;
-use crate::event::outcome;
-use crate::event::width;
 use counters::Counters;
-use recovery::State;
-use setup::Setup;
-use setup::Ticks;
+use turns::Bench;
+use turns::Outcome;
 
 // The counters in the order of the last line.
 fn figures(k: Counters) -> [u64; 8]
@@ -28,32 +24,6 @@ fn figures(k: Counters) -> [u64; 8]
     ]
 }
 
-// What stands in the place of the state before the setup. Nothing reads it.
-fn unset() -> State {
-    let counters = Counters {
-        passed: 0,
-        discarded: 0,
-        order: 0,
-        rogue: 0,
-        lost: 0,
-        tagless: 0,
-        resets: 0,
-        latent_resets: 0,
-    };
-    let left = Ticks(0);
-    let marks = marks::none();
-    let setup = Setup::of(0, 0, 0, 0, 0, 0, 0);
-    State {
-        setup,
-        newest: 0,
-        marks,
-        take_any: false,
-        left,
-        counters,
-        base: 0,
-    }
-}
-
 // The lines of a tape that is not too long.
 fn play(tape: &[u8], page: &mut [u8]) -> usize
     requires { ⌜ length (now tape) ≤ 4096 ⌝ }
@@ -62,20 +32,16 @@ fn play(tape: &[u8], page: &mut [u8]) -> usize
 {
     let mut at = 0;
     let mut written = 0;
-    let mut begun = false;
-    let mut state = unset();
+    let mut bench = Bench::Waits;
     loop {
-        let turn = outcome(tape, at, begun, state);
-        let said = turn.said;
-        state = turn.state;
-        match said {
-            Said::Event(line) => {
+        match turns::take_turn(tape, at, bench) {
+            Outcome::Next(line, state) => {
                 written = lines::write(line, page, written);
-                at = at + 1 + width(octets::octet(tape, at));
-                begun = true;
+                at = at + 1 + events::width(octets::octet(tape, at));
+                bench = Bench::Running(state);
             }
-            Said::Fault(number) => return lines::fault(number, page, written),
-            Said::End => return lines::counts(figures(state.counters), page, written),
+            Outcome::Fault(number) => return lines::fault(number, page, written),
+            Outcome::End(counters) => return lines::counts(figures(counters), page, written),
         }
     }
 }

@@ -1,6 +1,5 @@
 -- `soundness::parts_agree` meets its contract. Assumes nothing.
 use Rattle.octets.proofs.Bools.{chosen}
-use borrow.Author.Needs.{needs}
 use Rattle.recovery.proofs.soundness.parts_agree.Statement.{statement}
 use Rattle.recovery.proofs.soundness.parts_agree.Tie as tie
 

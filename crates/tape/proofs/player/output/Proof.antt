@@ -26,7 +26,8 @@ unfolding outputOf tapeChecks verdict
 returns c =
     let start = c .before .before .before .before .before .before .before in
     let on = shown (omega (arith, start .pre)) (c .before .before .fault .ensures) in
-    rw (lt-ltb 4096 (length (start .args .tape .now)) (omega (arith, c .before .before .before .before .if1 .taken))) (record { within = on .within; texts = on .front })
+    let over = lt-ltb 4096 (length (start .args .tape .now)) (omega (arith, c .before .before .before .before .if1 .taken)) in
+    rw over (record { within = on .within; texts = on .front })
 
 length-kept-2 : tie.Need-same-length-2
 length-kept-2 c = search needs

@@ -1,4 +1,4 @@
--- `tape::player::play` meets its contract: an event's line a turn, until a fault or the end. Assumes nothing.
+-- `player::play` meets its contract: an event's line a turn, until a fault or the end. Assumes nothing.
 use Prim.Native.Nat.{ℕ, _+_, _-_, _≤_}
 use native.Mathlib.Omega.{arith}
 use mathlib.Core.Path.{_≡_, sym, ap, _∙_}
@@ -7,9 +7,12 @@ use borrow.Author.Needs.{needs}
 use mathlib.Core.List.{List}
 use Rattle.lines.specs.Page.{Writes}
 use Rattle.lines.proofs.Room.{shown}
-use Rattle.tape.specs.Event.{Bench, next, width, outcomeAt, benchOf}
+use Rattle.events.specs.Event.{width}
+use Rattle.turns.specs.declared.Bench.{Bench}
+use Rattle.turns.specs.declared.Outcome.the-variants.{Next}
+use Rattle.turns.specs.Turn.{outcomeAt}
 use Rattle.tape.specs.Player.{enough}
-use Rattle.tape.proofs.Turns.{said-is, next-within}
+use Rattle.tape.proofs.Turns.{next-within}
 use Rattle.tape.proofs.Played.{Playing, one-more, starts, goes, ends-faulty, ends-well}
 use Rattle.tape.proofs.player.play.Statement.{statement}
 use Rattle.tape.proofs.player.play.Tie as tie
@@ -21,31 +24,29 @@ kept tape page₀ pre p w = shown (one-more (pre .0) p) w .same ∙ sym (p .room
 
 -- the invariant: the page holds the lines so far, and the rest is still to come
 abbrev Inv-loop : tie.InvT-loop
-Inv-loop tape page₀ at₀ written₀ begun₀ state₀ page at written begun state = Playing tape page at written (benchOf begun state)
+Inv-loop tape page₀ at₀ written₀ bench₀ page at written bench = Playing tape page at written bench
 
 -- the measure: the octets still to come
 abbrev μ-loop : tie.MeasureT-loop
-μ-loop tape page₀ at₀ written₀ begun₀ state₀ page at written begun state = length tape - at
-
-unset-requires : tie.Need-unset-requires Inv-loop μ-loop
-unset-requires c κs = search needs
+μ-loop tape page₀ at₀ written₀ bench₀ page at written bench = length tape - at
 
 loop-holds : tie.Need-loop-holds Inv-loop μ-loop
-loop-holds c = starts _ _ (c .before .before .before .pre .1)
+loop-holds c = starts _ _ (c .before .before .pre .1)
 
-outcome-requires : tie.Need-outcome-requires Inv-loop μ-loop
-outcome-requires c κs = search needs
+take-turn-requires : tie.Need-take-turn-requires Inv-loop μ-loop
+take-turn-requires c κs = search needs
 
-enum-known-said : tie.Need-enum-known-said Inv-loop μ-loop
-enum-known-said c = search needs
+enum-known-line : tie.Need-enum-known-line Inv-loop μ-loop
+enum-known-line c = search needs
 
 write-requires : tie.Need-write-requires Inv-loop μ-loop
 write-requires c κs = search needs
 
 add-at : tie.Need-add-at Inv-loop μ-loop
 add-at c =
-    let at-loop = c .before .before .before .before .before .before .before .before .before in
-    record { fits = omega (arith, at-loop .loop .inv .within, at-loop .before .before .before .before .pre .0) }
+    let at-line = c .before .before .before .before .before in
+    let at-loop = at-line .before .before .before in
+    record { fits = omega (arith, at-loop .loop .inv .within, at-loop .before .before .before .pre .0) }
 
 octet-requires : tie.Need-octet-requires Inv-loop μ-loop
 octet-requires c κs = search needs
@@ -54,26 +55,28 @@ width-requires : tie.Need-width-requires Inv-loop μ-loop
 width-requires c κs = search needs
 
 module _ (c : tie.After-width Inv-loop μ-loop) where
-  abbrev at-outcome : tie.After-outcome Inv-loop μ-loop
-  at-outcome = c .before .before .before .before .before .before .before .before .before .before
+  abbrev at-write : tie.After-write Inv-loop μ-loop
+  at-write = c .before .before .before .before
+
+  abbrev at-line : tie.After-line Inv-loop μ-loop
+  at-line = at-write .before .before .before
+
+  abbrev at-turn : tie.After-take-turn Inv-loop μ-loop
+  at-turn = at-line .before .before
 
   abbrev start : tie.Start Inv-loop μ-loop
-  start = at-outcome .before .before .before .before .before
+  start = at-turn .before .before .before .before
 
   -- the event goes on
-  went : let before = at-outcome .before .loop in
-      let at-said = c .before .before .before .before .before .before .before in
-      outcomeAt (start .args .tape .now) (before .at) (benchOf (before .begun) (before .state))
-      ≡ next (at-said .said .given .0 .0) (at-outcome .outcome .result .state)
-  went =
-      let at-said = c .before .before .before .before .before .before .before in
-      said-is (at-outcome .outcome .result) (at-outcome .outcome .ensures) (at-said .said .given .1)
+  went : let before = at-turn .before .loop in
+      outcomeAt (start .args .tape .now) (before .at) (before .bench) ≡ Next (at-line .line .given .0 .0) (at-line .line .given .0 .1 .0)
+  went = sym (at-turn .take-turn .ensures) ∙ at-line .line .given .1
 
-  width-is : c .width .result ≡ width (getD (start .args .tape .now) (at-outcome .before .loop .at) 0)
+  width-is : c .width .result ≡ width (getD (start .args .tape .now) (at-turn .before .loop .at) 0)
   width-is = c .width .ensures ∙ ap width (c .before .octet .ensures)
 
   -- and stands within the tape
-  behind : at-outcome .before .loop .at + 1 + c .width .result ≤ length (start .args .tape .now)
+  behind : at-turn .before .loop .at + 1 + c .width .result ≤ length (start .args .tape .now)
   behind = let is = width-is in let whole = next-within _ _ _ went in omega (arith, is, whole)
 
 add-at-2 : tie.Need-add-at-2 Inv-loop μ-loop
@@ -83,33 +86,32 @@ loop-less : tie.Need-loop-less Inv-loop μ-loop
 loop-less c = omega (arith, behind c)
 
 loop-again : tie.Need-loop-again Inv-loop μ-loop
-loop-again c =
-    let written = c .before .before .before .before .write .ensures in
-    rw (width-is c) (goes (start c .pre .0) (at-outcome c .before .loop .inv) written (went c))
+loop-again c = rw (width-is c) (goes (start c .pre .0) (at-turn c .before .loop .inv) (at-write c .write .ensures) (went c))
 
-enum-known-said-2 : tie.Need-enum-known-said-2 Inv-loop μ-loop
-enum-known-said-2 c = search needs
+enum-known-number : tie.Need-enum-known-number Inv-loop μ-loop
+enum-known-number c = search needs
 
 fault-requires : tie.Need-fault-requires Inv-loop μ-loop
 fault-requires c κs = search needs
 
 length-kept : tie.Need-same-length Inv-loop μ-loop
 length-kept c =
-    let at-loop = c .before .before .before .before .before .before .before .before .before in
-    let start = at-loop .before .before .before .before in
-    kept (start .args .tape .now) (start .args .page .now) (start .pre) (at-loop .loop .inv) (c .before .before .fault .ensures)
+    let at-fault = c .before .before in
+    let at-turn = at-fault .before .before .before .before .before in
+    let start = at-turn .before .before .before .before in
+    kept (start .args .tape .now) (start .args .page .now) (start .pre) (at-turn .before .loop .inv) (at-fault .fault .ensures)
 
 -- a fault
 returns : tie.Need-returns Inv-loop μ-loop
 returns c =
-    let at-said = c .before .before .before .before .before in
-    let at-outcome = at-said .before .before .before in
-    let at-loop = at-outcome .before in
-    ends-faulty (at-loop .before .before .before .before .pre .0) (at-loop .loop .inv) (c .before .before .fault .ensures)
-    (said-is (at-outcome .outcome .result) (at-outcome .outcome .ensures) (at-said .said2 .given .1))
+    let at-fault = c .before .before in
+    let at-number = at-fault .before .before .before in
+    let at-turn = at-number .before .before in
+    ends-faulty (at-turn .before .before .before .before .pre .0) (at-turn .before .loop .inv) (at-fault .fault .ensures)
+    (sym (at-turn .take-turn .ensures) ∙ at-number .number .given .1)
 
-enum-told : tie.Need-enum-told Inv-loop μ-loop
-enum-told c = search needs
+enum-known-counters : tie.Need-enum-known-counters Inv-loop μ-loop
+enum-known-counters c = search needs
 
 figures-requires : tie.Need-figures-requires Inv-loop μ-loop
 figures-requires c κs = search needs
@@ -119,19 +121,21 @@ counts-requires c κs = search needs
 
 length-kept-2 : tie.Need-same-length-2 Inv-loop μ-loop
 length-kept-2 c =
-    let at-loop = c .before .before .before .before .before .before .before .before .before in
-    let start = at-loop .before .before .before .before in
-    kept (start .args .tape .now) (start .args .page .now) (start .pre) (at-loop .loop .inv) (c .before .before .counts .ensures)
+    let at-counts = c .before .before in
+    let at-turn = at-counts .before .before .before .before .before .before in
+    let start = at-turn .before .before .before .before in
+    kept (start .args .tape .now) (start .args .page .now) (start .pre) (at-turn .before .loop .inv) (at-counts .counts .ensures)
 
 -- the end of the tape
 returns-2 : tie.Need-returns-2 Inv-loop μ-loop
 returns-2 c =
-    let at-figures = c .before .before .before .before in
-    let at-outcome = at-figures .before .before .before .before in
-    let at-loop = at-outcome .before in
-    ends-well (at-loop .before .before .before .before .pre .0) (at-loop .loop .inv)
-    (rw (at-figures .figures .ensures) at (c .before .before .counts .ensures))
-    (said-is (at-outcome .outcome .result) (at-outcome .outcome .ensures) (at-figures .before .enum-told .given .1))
+    let at-counts = c .before .before in
+    let at-figures = at-counts .before .before in
+    let at-counters = at-figures .before .before in
+    let at-turn = at-counters .before .before in
+    ends-well (at-turn .before .before .before .before .pre .0) (at-turn .before .loop .inv)
+    (rw (at-figures .figures .ensures) at (at-counts .counts .ensures))
+    (sym (at-turn .take-turn .ensures) ∙ at-counters .counters .given .1)
 
 pub play-spec : {M : Type 1} → statement M
 play-spec =
@@ -139,10 +143,9 @@ play-spec =
     (tie.spec
     Inv-loop
     μ-loop
-    unset-requires
     loop-holds
-    outcome-requires
-    enum-known-said
+    take-turn-requires
+    enum-known-line
     write-requires
     add-at
     octet-requires
@@ -150,11 +153,11 @@ play-spec =
     add-at-2
     loop-less
     loop-again
-    enum-known-said-2
+    enum-known-number
     fault-requires
     length-kept
     returns
-    enum-told
+    enum-known-counters
     figures-requires
     counts-requires
     length-kept-2

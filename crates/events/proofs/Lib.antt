@@ -1,0 +1,2 @@
+pub mod KnownKinds
+pub mod Unique

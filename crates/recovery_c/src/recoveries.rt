@@ -1,0 +1,108 @@
+// The calls on a recovery state ("Numbering and recovery", document 01) for C: words are lent, the step is taken on the state that they
+// hold, and the next state's words take their place. Words that hold no state are 14.
+use calls::Call;
+use recovery::Begun;
+use recovery::Packet;
+use recovery::State;
+use setup::Setup;
+use states::Held;
+ghost use Rattle.setup.specs.Values.{setupOf};
+ghost use Rattle.recovery.specs.declared.Packet.the-variants as packet;
+ghost use Rattle.calls.specs.declared.Call.the-variants as call;
+ghost use Rattle.recovery_c.specs.Recoveries.{BeginsTo, StepsTo, TestsTo};
+
+// A fresh state, written to twenty words.
+#[no_mangle]
+pub extern "C" fn ahz_fresh(
+    rule: u8,
+    taken: u8,
+    history: u16,
+    milliseconds: u32,
+    rate: u16,
+    paths: u8,
+    difference: u32,
+    state: &mut [u64],
+) -> u8
+    ensures { λ r. ⌜ BeginsTo (setupOf rule taken history milliseconds rate paths difference) (now (state .entry)) r (now (state .exit)) ⌝ }
+{
+    begin_in(
+        Setup::of(rule, taken, history, milliseconds, rate, paths, difference),
+        state,
+    )
+}
+
+// A packet with a number.
+#[no_mangle]
+pub extern "C" fn ahz_numbered(state: &mut [u64], number: u16) -> u8
+    ensures { λ r. ⌜ StepsTo (call.Packet (packet.Numbered number)) (now (state .entry)) r (now (state .exit)) ⌝ }
+{
+    step_in(Call::Packet(Packet::Numbered(number)), state)
+}
+
+// A packet without a number.
+#[no_mangle]
+pub extern "C" fn ahz_tagless(state: &mut [u64]) -> u8
+    ensures { λ r. ⌜ StepsTo (call.Packet packet.Tagless) (now (state .entry)) r (now (state .exit)) ⌝ }
+{
+    step_in(Call::Packet(Packet::Tagless), state)
+}
+
+#[no_mangle]
+pub extern "C" fn ahz_tick(state: &mut [u64]) -> u8
+    ensures { λ r. ⌜ StepsTo call.Tick (now (state .entry)) r (now (state .exit)) ⌝ }
+{
+    step_in(Call::Tick, state)
+}
+
+#[no_mangle]
+pub extern "C" fn ahz_reset(state: &mut [u64]) -> u8
+    ensures { λ r. ⌜ StepsTo call.Reset (now (state .entry)) r (now (state .exit)) ⌝ }
+{
+    step_in(Call::Reset, state)
+}
+
+#[no_mangle]
+pub extern "C" fn ahz_latent_reset(state: &mut [u64]) -> u8
+    ensures { λ r. ⌜ StepsTo call.LatentReset (now (state .entry)) r (now (state .exit)) ⌝ }
+{
+    step_in(Call::LatentReset, state)
+}
+
+#[no_mangle]
+pub extern "C" fn ahz_latent_test(state: &[u64]) -> u8
+    ensures { λ r. ⌜ TestsTo (now (state .entry)) r ⌝ }
+{
+    match states::read(state) {
+        Held::State(s) => {
+            let called = calls::take(s, Call::LatentTest);
+            let answer = called.answer;
+            answers::number_of(answer)
+        }
+        Held::Nothing => 14,
+    }
+}
+
+fn begin_in(setup: Setup, state: &mut [u64]) -> u8
+    ensures { λ r. ⌜ BeginsTo setup (now (state .entry)) r (now (state .exit)) ⌝ }
+{
+    match State::fresh(setup) {
+        Begun::Ready(s) => { if states::keep(s, state) { 0 } else { 14 } }
+        Begun::Refused(no) => no,
+    }
+}
+
+// The one way that every step takes.
+fn step_in(call: Call, state: &mut [u64]) -> u8
+    ensures { λ r. ⌜ StepsTo call (now (state .entry)) r (now (state .exit)) ⌝ }
+{
+    match states::read(state) {
+        Held::State(s) => {
+            let called = calls::take(s, call);
+            let answer = called.answer;
+            let next = called.state;
+            states::keep(next, state);
+            answers::number_of(answer)
+        }
+        Held::Nothing => 14,
+    }
+}

@@ -1,0 +1,16 @@
+-- Of `read` and `keep`, two answers that the promise allows are equal, and so are two lists of words afterwards. Assumes nothing.
+use Prim.Native.Nat.{ℕ}
+use mathlib.Core.Path.{_≡_}
+use mathlib.Core.Bool.{Bool}
+use mathlib.Core.List.{List}
+use Rattle.octets.proofs.Unique.{one}
+use Rattle.recovery.specs.declared.State.{State}
+use Rattle.states.specs.declared.Held.{Held}
+use Rattle.states.specs.Fields.{Reads, Keeps}
+
+module _ (w : List ℕ) where
+  pub reads-one : {a b : Held} → Reads w a → Reads w b → a ≡ b
+  reads-one = one
+
+  pub keeps-one : (s : State) {a b : Bool} {l m : List ℕ} → Keeps s w a l → Keeps s w b m → (a ≡ b) × (l ≡ m)
+  keeps-one s p q = (one (p .answer) (q .answer), one (p .words) (q .words))

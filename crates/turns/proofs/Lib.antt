@@ -1,0 +1,3 @@
+pub mod InTurn
+pub mod NeverFourteen
+pub mod Unique
