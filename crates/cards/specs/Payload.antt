@@ -17,14 +17,15 @@ abbrev pub nextKind : List ℕ → ℕ
 nextKind [] = 0x00
 nextKind (kind ∷ body) = kind
 
--- "00 ends; 10 hex flush order, 4 octets (blocks asked); 11 hex raw code, 2; 12 hex millivolts, 2": whether there is such a kind, how many
--- octets come after it, and the card that they give
+-- "00 ends; 10 hex flush order, 4 octets (blocks asked); 11 hex raw code, 2; 12 hex millivolts, 2": whether there is such a kind
 abbrev pub known : ℕ → Bool
 known kind = eqb kind 0x00 || eqb kind 0x10 || eqb kind 0x11 || eqb kind 0x12
 
+-- how many octets come after it: "flush order, 4 octets", "raw code, 2", "millivolts, 2"
 abbrev pub octetsAfter : ℕ → ℕ
 octetsAfter kind = cond (eqb kind 0x00) 0 (cond (eqb kind 0x10) 4 2)
 
+-- and the card that they give
 abbrev pub ofKind : ℕ → List ℕ → Card
 ofKind kind body =
     cond (eqb kind 0x00) End
@@ -70,6 +71,7 @@ isCard c = ltb 0 (width c)
 abbrev pub cardPart : List ℕ → List ℕ
 cardPart o = take (width (nextCard o)) o
 
+-- "with the rest after it"
 abbrev pub restPart : List ℕ → List ℕ
 restPart o = cond (isCard (nextCard o)) (drop (width (nextCard o)) o) []
 
@@ -77,9 +79,10 @@ restPart o = cond (isCard (nextCard o)) (drop (width (nextCard o)) o) []
 abbrev pub Next : List ℕ → Card → Type 0
 Next o r = r ≡ nextCard o
 
--- of `part` and `rest`: the payload and the part, each with where it lies
+-- of `part`: the payload and the part, each with where it lies
 abbrev pub HandsCard : List ℕ → ℕ × ℕ → List ℕ → ℕ × ℕ → Type 0
 HandsCard o at part place = HandedBack at (cardPart o) 0 part place
 
+-- of `rest`, likewise
 abbrev pub HandsRest : List ℕ → ℕ × ℕ → List ℕ → ℕ × ℕ → Type 0
 HandsRest o at part place = HandedBack at (restPart o) (width (nextCard o)) part place

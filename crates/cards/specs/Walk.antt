@@ -7,6 +7,7 @@ use lib.ListN.{length}
 use Rattle.cards.specs.Payload.{nextCard, isCard, cardPart, restPart}
 use Rattle.cards.specs.declared.Card.{Card}
 
+-- what a walk has come to
 pub record Walk : Type 0 where
   -- the cards, first to last
   pub cards : List Card

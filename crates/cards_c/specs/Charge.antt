@@ -51,11 +51,11 @@ pub record NextTo (o : List ℕ) (before r after : ℕ) : Type 0 where
   pub answer : r ≡ ofCard (nextCard o)
   pub value : after ≡ valueBy (nextCard o) before
 
--- of `ahz_card_octets` and `ahz_rest_octets`: the lengths of the parts that `part` and `rest` hand back, the payload's first octets and
--- its last ones
+-- of `ahz_card_octets`: the length of the part that `part` hands back, the payload's first octets
 abbrev pub CardOctets : List ℕ → ℕ → Type 0
 CardOctets o r = r ≡ length (cardPart o)
 
+-- of `ahz_rest_octets`: the length of the part that `rest` hands back, its last ones
 abbrev pub RestOctets : List ℕ → ℕ → Type 0
 RestOctets o r = r ≡ length (restPart o)
 

@@ -1,5 +1,5 @@
 -- The counters grow as the third demand says (`specs/Growth.antt`), and growing adds up. Assumes nothing.
-use mathlib.Core.Path.{_≡_, refl, sym, ap, _∙_}
+use mathlib.Core.Path.{refl, sym, ap, _∙_}
 use Prim.Native.Nat.{ℕ, _+_, _%_, _^_}
 use native.Mathlib.Nat.{add-assoc, mod-add-mod, mod-mod}
 use Rattle.rules.specs.declared.Effect.{Effect}

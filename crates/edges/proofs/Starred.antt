@@ -95,5 +95,7 @@ abbrev pub expected : Case → Answer
 expected c = c .said
 
 pub starred : map given cases ≡ map expected cases
-unfolding cases tag mark none clearFrom set reach moved lostBy slid lostIn verdict fullTicks ticksOf setupChecks checked isVector apart signed difference outOfOrder firstMarks first late onward byDifference vector match plus awaits sound freshState restarted byRule numbered counted settled heard packetOf
+unfolding cases tag mark none clearFrom set reach moved lostBy slid lostIn verdict fullTicks ticksOf setupChecks checked isVector apart
+    signed difference outOfOrder firstMarks first late onward byDifference vector match plus awaits sound freshState restarted byRule
+    numbered counted settled heard packetOf
 starred = refl

@@ -1,5 +1,5 @@
-// "Both sides of each edge" (document 01): every case is run, and what it gave is printed. The frame cases are frames of zeros with a tag or two
-// put in. The cases with a star are proved besides, in proofs/Starred.antt.
+// "Both sides of each edge" (document 01): every case is run, and what it gave is printed. The frame cases are frames of zeros with a tag or
+// two put in. The cases with a star are proved besides, in proofs/Starred.antt.
 use frame::Reading;
 use libc::STDOUT_FILENO;
 use recovery::Begun;
@@ -109,13 +109,19 @@ fn tag_case(title: &[u8]) {
     io::write_all(STDOUT_FILENO, b"\n");
 }
 
-fn vector_cases() {
+fn first_cases() {
     hear_case(b"fresh, 10:", 0, 4, &[10]);
     hear_case(b"H 4, 10 13:", 0, 4, &[10, 13]);
     hear_case(b"H 4, 10 14:", 0, 4, &[10, 14]);
+}
+
+fn late_cases() {
     hear_case(b"H 4, 10 13 11:", 0, 4, &[10, 13, 11]);
     hear_case(b"H 4, 10 13 10:", 0, 4, &[10, 13, 10]);
     hear_case(b"H 4, 10 13 9:", 0, 4, &[10, 13, 9]);
+}
+
+fn far_cases() {
     hear_case(b"65535 0:", 0, 4, &[65535, 0]);
     hear_case(b"H 64, 0 65473:", 0, 64, &[0, 65473]);
     hear_case(b"H 64, 0 65472:", 0, 64, &[0, 65472]);
@@ -133,25 +139,39 @@ fn tick_cases() {
     ticks_case(b"11 ms at 100: ", 11, 100);
 }
 
-fn frame_cases() {
+fn length_cases() {
     frame_case(b"13 octets: ", b"", 13);
     frame_case(b"14 octets: ", b"", 14);
     frame_case(b"1522 octets: ", b"", 1522);
     frame_case(b"1523 octets: ", b"", 1523);
+}
+
+fn one_tag_cases() {
     frame_case(b"C-TAG in 17: ", b"\x81\x00", 17);
     frame_case(b"C-TAG in 18: ", b"\x81\x00", 18);
     frame_case(b"R-TAG in 19: ", b"\xf1\xc1", 19);
     frame_case(b"R-TAG in 20: ", b"\xf1\xc1", 20);
+}
+
+fn both_tags_cases() {
     frame_case(b"both in 23: ", b"\x81\x00\x00\x00\xf1\xc1", 23);
     frame_case(b"both in 24: ", b"\x81\x00\x00\x00\xf1\xc1", 24);
+}
+
+fn insert_cases() {
     insert_case(b"insertion into 1516: ", 1516);
     insert_case(b"insertion into 1517: ", 1517);
 }
 
 fn main() {
-    vector_cases();
+    first_cases();
+    late_cases();
+    far_cases();
     tick_cases();
     match_cases();
     tag_case(b"number 258: ");
-    frame_cases();
+    length_cases();
+    one_tag_cases();
+    both_tags_cases();
+    insert_cases();
 }

@@ -6,17 +6,19 @@ use mathlib.Core.List.{List, [], _∷_}
 use lib.Dec.{eqb}
 use Rattle.octets.specs.Number.{be16, be48}
 
--- the types that announce a tag: "81 00" and "F1 C1"
+-- the type that announces a C-TAG: "81 00"
 abbrev pub C-TAG : ℕ
 C-TAG = 0x8100
 
+-- and an R-TAG: "F1 C1"
 abbrev pub R-TAG : ℕ
 R-TAG = 0xF1C1
 
--- "Destination 6, source 6", each as one number
+-- "Destination 6", as one number
 unfoldable pub destination : List ℕ → ℕ
 destination o = be48 o 0
 
+-- "source 6", likewise
 unfoldable pub source : List ℕ → ℕ
 source o = be48 o 6
 

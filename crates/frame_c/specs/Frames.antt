@@ -67,22 +67,25 @@ pub record WritesTo (v : Verdict) (result out : List ℕ) (before r : ℕ) (late
   pub buffer : later ≡ outputBy v result out
   pub told : after ≡ lengthBy v (length result) before
 
--- what `tell` promises them: the room's answer as a number, with the length beside it
+-- the room's answer as a number
 abbrev pub answerOf : Written → ℕ
 answerOf (written.Length n) = 0
 answerOf (written.Refused n) = n
 
+-- with the length beside it; a refusal leaves that as it was
 abbrev pub lengthOf : Written → ℕ → ℕ
 lengthOf (written.Length n) before = n
 lengthOf (written.Refused k) before = before
 
+-- what `tell` promises its callers
 pub record Tells (w : Written) (before r after : ℕ) : Type 0 where
   pub answer : r ≡ answerOf w
   pub told : after ≡ lengthOf w before
 
--- of `ahz_insert` and `ahz_remove`
+-- the promises: of `ahz_insert`
 abbrev pub InsertsTo : List ℕ → ℕ → List ℕ → ℕ → ℕ → List ℕ → ℕ → Type 0
 InsertsTo o n out before r later after = WritesTo (verdict (insertChecks o (length out))) (inserted o n) out before r later after
 
+-- of `ahz_remove`
 abbrev pub RemovesTo : List ℕ → List ℕ → ℕ → ℕ → List ℕ → ℕ → Type 0
 RemovesTo o out before r later after = WritesTo (verdict (removeChecks o (length out))) (removed o) out before r later after

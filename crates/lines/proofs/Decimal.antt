@@ -2,12 +2,11 @@
 use Prim.Native.Nat.{ℕ, zero, suc, _+_, _-_, _*_, _/_, _%_, _^_, _≤_, _<_}
 use native.Mathlib.Nat.{pow-succ', pow-zero, mod-eq-of-lt, pow-le-pow-right}
 use native.Mathlib.Omega.{arith}
-use mathlib.Core.Path.{_≡_, refl, sym, _∙_}
-use mathlib.Core.Bool.{Bool, true, false}
-use lib.Dec.{leb, ltb}
+use mathlib.Core.Path.{_≡_}
+use lib.Dec.{leb}
 use borrow.Author.Tests.{lt-ltb, le-ltb, leb-true, leb-false}
 use lib.Pow.{pow-pos}
-use mathlib.Core.List.{_∷_, [], _++_}
+use Rattle.octets.proofs.Bools.{by-cases}
 use Rattle.io.specs.Digits.{glyph, digits, Fewest}
 use Rattle.lines.specs.Lines.{decimalIn}
 
@@ -35,13 +34,12 @@ digits-decimal (suc k) (suc (suc r)) n p f =
 
 -- twenty digits are enough for 64 bits
 pub twenty : (n k : ℕ) → n < 2 ^ 64 → Fewest 10 1 n k → k ≤ 20
-twenty n k small f = by (leb k 20) refl
+twenty n k small f =
+    by-cases (leb k 20)
+    (λ few. leb-true k 20 few)
+    (λ many.
+    let more : 20 < k = leb-false k 20 many in
+    absurd (omega (arith, f .2 (omega arith), ten-up (k - 1) (omega arith))))
   where
     ten-up : (j : ℕ) → 20 ≤ j → 10 ^ 20 ≤ 10 ^ j
     ten-up j p = pow-le-pow-right (omega arith) p
-
-    by : (b : Bool) → leb k 20 ≡ b → k ≤ 20
-    by true e = leb-true k 20 e
-    by false e =
-        let more : 20 < k = leb-false k 20 e in
-        absurd (omega (arith, f .2 (omega arith), ten-up (k - 1) (omega arith)))

@@ -1,12 +1,13 @@
 -- The test for room, and a line with and without it. Assumes nothing.
 use Prim.Native.Nat.{ℕ, _+_, _-_, _≤_}
 use native.Mathlib.Omega.{arith}
-use mathlib.Core.Path.{_≡_, refl, sym, ap, _∙_}
-use mathlib.Core.Bool.{Bool, true, false}
+use mathlib.Core.Path.{_≡_, sym, ap, _∙_}
+use mathlib.Core.Bool.{true, false}
 use mathlib.Core.List.{List, _++_}
 use lib.ListN.{length, take}
 use lib.Dec.{leb}
 use borrow.Author.Tests.{leb-true, leb-false, le-leb, lt-leb}
+use Rattle.octets.proofs.Bools.{by-cases}
 use Rattle.lines.specs.Lines.{longest}
 use Rattle.lines.specs.Words.{putAt, Appends}
 use Rattle.lines.specs.Page.{hasRoom, Writes}
@@ -14,11 +15,10 @@ use Rattle.lines.proofs.Growth.{put-front, put-length}
 
 -- as the code tests it, without a sum that could wrap
 pub tested : (at long : ℕ) → longest ≤ long → leb at (long - longest) ≡ leb (at + longest) long
-tested at long p = by (leb at (long - longest)) refl
-  where
-    by : (b : Bool) → leb at (long - longest) ≡ b → leb at (long - longest) ≡ leb (at + longest) long
-    by true e = e ∙ sym (le-leb (at + longest) long (omega (arith, leb-true at (long - longest) e)))
-    by false e = e ∙ sym (lt-leb (at + longest) long (omega (arith, leb-false at (long - longest) e)))
+tested at long p =
+    by-cases (leb at (long - longest))
+    (λ fits. fits ∙ sym (le-leb (at + longest) long (omega (arith, leb-true at (long - longest) fits))))
+    (λ over. over ∙ sym (lt-leb (at + longest) long (omega (arith, leb-false at (long - longest) over))))
 
 module _ (line page : List ℕ) (at : ℕ) where
   pub with-room : {r : ℕ} {later : List ℕ} → hasRoom page at ≡ true → r ≤ at + longest → Appends line page at r later

@@ -28,6 +28,7 @@ lineWords =
 unfoldable pub words : List String
 words = lineWords ++ labels
 
+-- a word as its octets
 abbrev pub wordAt : ℕ → List ℕ
 wordAt i = octetsOf (getD words i "")
 

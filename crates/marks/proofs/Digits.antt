@@ -1,12 +1,14 @@
 -- A number's binary digits, one by one: what adding a power, doubling and cutting off do to each. Assumes nothing.
-use mathlib.Core.Path.{_≡_, refl, sym, ap, subst, _∙_}
-use mathlib.Core.Bool.{Bool, true, false, cond}
+use mathlib.Core.Path.{_≡_, sym, ap, subst, _∙_}
+use mathlib.Core.Bool.{cond}
 use Prim.Native.Nat.{ℕ, zero, suc, _+_, _-_, _*_, _/_, _%_, _^_, _≤_, _<_}
-use native.Mathlib.Nat.{pow-suc, pow-succ', div-one, div-div-eq-div-mul, mul-div-cancel, mod-lt, div-add-mod', add-mul, one-mul, div-eq-of-lt, div-lt-iff-lt-mul}
+use native.Mathlib.Nat.{pow-suc, pow-succ', add-mul, one-mul, mul-div-cancel, mod-lt, div-add-mod'}
+use native.Mathlib.Nat.{div-one, div-div-eq-div-mul, div-eq-of-lt, div-lt-iff-lt-mul}
 use native.Mathlib.Omega.{arith}
 use lib.Arith.{mod-mul, digits-lt}
 use lib.Pow.{pow-pos, pow-add, shr-lt, shl-exact}
 use borrow.Author.Tests.{ltb-true, ltb-false, ne-eqb}
+use Rattle.octets.proofs.Bools.{by-cases}
 use lib.Dec.{eqb, ltb, eqb·zero-suc, eqb·suc-zero, eqb·suc-suc, lit<}
 
 -- digit k
@@ -88,11 +90,13 @@ digit-moved-suc h k n kh =
 
 -- a number has nothing at h and above exactly if it is below the power
 pub none-above : (h n : ℕ) → eqb (n / 2 ^ h) 0 ≡ ltb n (2 ^ h)
-none-above h n = by (ltb n (2 ^ h)) refl
+none-above h n =
+    by-cases (ltb n (2 ^ h))
+    (λ below. rw (below, div-eq-of-lt (ltb-true n (2 ^ h) below)))
+    (λ above.
+    let over : n / 2 ^ h ≡ 0 → ⊥ =
+    λ e. omega (arith, ltb-false n (2 ^ h) above, div-lt-iff-lt-mul {k = 2 ^ h} (pow-pos h) .0 (one e)) in
+    ne-eqb _ _ over ∙ sym above)
   where
     one : n / 2 ^ h ≡ 0 → n / 2 ^ h < 1
     one e = omega arith
-
-    by : (t : Bool) → ltb n (2 ^ h) ≡ t → eqb (n / 2 ^ h) 0 ≡ t
-    by true t = rw (div-eq-of-lt (ltb-true n (2 ^ h) t))
-    by false t = ne-eqb _ _ (λ (e : n / 2 ^ h ≡ 0). omega (arith, ltb-false n (2 ^ h) t, div-lt-iff-lt-mul {k = 2 ^ h} (pow-pos h) .0 (one e)))

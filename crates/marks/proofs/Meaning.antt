@@ -2,10 +2,11 @@
 use Prim.Native.Nat.{ℕ, zero, suc, _+_, _-_, _≤_, _<_}
 use native.Mathlib.Nat.{sub-zero, add-zero}
 use native.Mathlib.Omega.{arith}
-use mathlib.Core.Path.{_≡_, refl, _∙_}
-use mathlib.Core.Bool.{Bool, true, false, cond}
+use mathlib.Core.Path.{_≡_, refl, sym, _∙_}
+use mathlib.Core.Bool.{true, cond}
 use lib.Dec.{ltb}
 use borrow.Author.Tests.{lt-ltb, le-ltb, ltb-true, ltb-false}
+use Rattle.octets.proofs.Bools.{either, choose-first}
 use Rattle.marks.specs.declared.Marks.{Marks}
 use Rattle.marks.specs.Window.{most, mark, clearFrom, moved, slid, lostIn}
 use Rattle.marks.specs.Meaning.{clearAmong, SlidesMean, SetsMean}
@@ -27,18 +28,18 @@ module _ (h : ℕ) (low : 1 ≤ h) (high : h ≤ most) where
   mark-slid : (d k : ℕ) (marks : Marks) → k < h → mark k (slid h d marks) ≡ cond (ltb k d) 0 (mark (k - d) marks)
   unfolding slid
   mark-slid zero k marks kh = rw (le-ltb k 0 (omega arith), sub-zero)
-  mark-slid (suc d) k marks kh = mark-slid d k (moved h marks) kh ∙ by (ltb k d) refl (ltb k (suc d)) refl
-    where
-      by : (a : Bool) → ltb k d ≡ a → (b : Bool) → ltb k (suc d) ≡ b
-          → cond a 0 (mark (k - d) (moved h marks)) ≡ cond b 0 (mark (k - suc d) marks)
-      by true a true b = refl
-      by true a false b = absurd (omega (arith, ltb-true k d a, ltb-false k (suc d) b))
-      by false a true b =
-          let none : k - d ≡ 0 = omega (arith, ltb-false k d a, ltb-true k (suc d) b) in
-          rw none (mark-moved-zero h low high marks)
-      by false a false b =
-          let some : k - d ≡ suc (k - suc d) = omega (arith, ltb-false k (suc d) b) in
-          rw some (mark-moved-suc h low high marks (k - suc d) (omega (arith, ltb-false k (suc d) b)))
+  mark-slid (suc d) k marks kh =
+      mark-slid d k (moved h marks) kh
+      ∙ either (λ (m : ℕ). m ≡ cond (ltb k (suc d)) 0 (mark (k - suc d) marks)) (ltb k d)
+      (λ before. sym (choose-first _ _ (lt-ltb k (suc d) (omega (arith, ltb-true k d before)))))
+      (λ behind.
+      either (λ (m : ℕ). mark (k - d) (moved h marks) ≡ m) (ltb k (suc d))
+      (λ there.
+      let none : k - d ≡ 0 = omega (arith, ltb-false k d behind, ltb-true k (suc d) there) in
+      rw none (mark-moved-zero h low high marks))
+      (λ past.
+      let some : k - d ≡ suc (k - suc d) = omega (arith, ltb-false k (suc d) past) in
+      rw some (mark-moved-suc h low high marks (k - suc d) (omega (arith, ltb-false k (suc d) past)))))
 
   clear-slid : (d : ℕ) (marks : Marks) → clearFrom h marks ≡ true → clearFrom h (slid h d marks) ≡ true
   unfolding slid

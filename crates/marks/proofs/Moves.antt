@@ -4,10 +4,11 @@ use Prim.Native.Nat.{ℕ, zero, suc, _+_, _-_, _*_, _%_, _^_, _≤_, _<_}
 use native.Mathlib.Nat.{mod-lt, zero-div}
 use native.Mathlib.Omega.{arith}
 use mathlib.Core.Path.{_≡_, refl, ap}
-use mathlib.Core.Bool.{Bool, true, false, cond, _&&_}
-use lib.Dec.{eqb, ltb}
+use mathlib.Core.Bool.{true, false, cond}
+use lib.Dec.{eqb}
 use lib.Pow.{pow-pos}
-use borrow.Author.Tests.{lt-ltb, ltb-true, eq-eqb, ne-eqb, eqb-true, eqb-false}
+use borrow.Author.Tests.{lt-ltb, ltb-true, eqb-true, eqb-false}
+use Rattle.octets.proofs.Bools.{by-cases, either}
 use Rattle.marks.specs.declared.Marks.{Marks}
 use Rattle.marks.specs.Window.{most, number, mark, none, clearFrom, set, moved, lostBy, slid, lostIn}
 use Rattle.marks.proofs.Digits.{digit, digit-below-2, digit-set, set-below, digit-moved-zero, digit-moved-suc}
@@ -34,27 +35,22 @@ none-from h = lt-ltb 0 (2 ^ h) (pow-pos h)
 module _ (k : ℕ) (marks : Marks) (there : k < most) where
   pub mark-set : (j : ℕ) → mark j (set k marks) ≡ cond (eqb j k) 1 (mark j marks)
   unfolding set mark digit
-  mark-set j = by (eqb (mark k marks) 0) refl
-    where
-      same : mark k marks ≡ 1 → (t : Bool) → eqb j k ≡ t → mark j marks ≡ cond t 1 (mark j marks)
-      same e true t = rw (eqb-true j k t) e
-      same e false t = refl
-
-      by : (clear : Bool) → eqb (mark k marks) 0 ≡ clear → mark j (set k marks) ≡ cond (eqb j k) 1 (mark j marks)
-      by true e = rw (lt-ltb k most there, e) (digit-set j k (number marks) (eqb-true _ _ e))
-      by false e =
-          let one : mark k marks ≡ 1 = omega (arith, eqb-false (mark k marks) 0 e, mark-below-2 k marks) in
-          rw (lt-ltb k most there, e) (same one (eqb j k) refl)
+  mark-set j =
+      by-cases (eqb (mark k marks) 0)
+      (λ clear. rw (lt-ltb k most there, clear) (digit-set j k (number marks) (eqb-true _ _ clear)))
+      (λ set-already.
+      let one : mark k marks ≡ 1 = omega (arith, eqb-false (mark k marks) 0 set-already, mark-below-2 k marks) in
+      rw (lt-ltb k most there, set-already)
+      (either (λ (n : ℕ). mark j marks ≡ n) (eqb j k) (λ same. rw (eqb-true j k same) one) (λ _. refl)))
 
   pub clear-set : (h : ℕ) → k < h → clearFrom h marks ≡ true → clearFrom h (set k marks) ≡ true
   unfolding set clearFrom mark digit
-  clear-set h below fits = by (eqb (mark k marks) 0) refl
-    where
-      by : (clear : Bool) → eqb (mark k marks) 0 ≡ clear → clearFrom h (set k marks) ≡ true
-      by true e =
-          rw (lt-ltb k most there, e)
-          (lt-ltb _ _ (set-below h k (number marks) below (ltb-true (number marks) (2 ^ h) fits) (eqb-true _ _ e)))
-      by false e = rw (lt-ltb k most there, e) fits
+  clear-set h below fits =
+      by-cases (eqb (mark k marks) 0)
+      (λ clear.
+      rw (lt-ltb k most there, clear)
+      (lt-ltb _ _ (set-below h k (number marks) below (ltb-true (number marks) (2 ^ h) fits) (eqb-true _ _ clear))))
+      (λ set-already. rw (lt-ltb k most there, set-already) fits)
 
 -- one move in a history that there can be
 module _ (h : ℕ) (low : 1 ≤ h) (high : h ≤ most) (marks : Marks) where

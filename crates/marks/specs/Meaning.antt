@@ -23,9 +23,10 @@ pub record SetMeans (k : ℕ) (marks : Marks) : Type 0 where
   pub mark-after : (j : ℕ) → mark j (set k marks) ≡ cond (eqb j k) 1 (mark j marks)
   pub clear-above : (h : ℕ) → k < h → clearFrom h marks ≡ true → clearFrom h (set k marks) ≡ true
 
--- so for every history length that there is, every slide within it, and every mark
+-- so for every history length that there is, and every slide within it
 abbrev pub SlidesMean : Type 0
 SlidesMean = (h d : ℕ) (marks : Marks) → 1 ≤ h → h ≤ most → d ≤ h → SlideMeans h d marks
 
+-- and for every mark that there is
 abbrev pub SetsMean : Type 0
 SetsMean = (k : ℕ) (marks : Marks) → k < most → SetMeans k marks

@@ -11,10 +11,11 @@ use Rattle.marks.specs.declared.Slid.{Slid}
 abbrev pub most : ℕ
 most = 64
 
--- all marks as one number, and the marks of a number
+-- all marks as one number
 abbrev pub number : Marks → ℕ
 number marks = marks .0
 
+-- and the marks of a number
 abbrev pub marksOf : ℕ → Marks
 marksOf n = record { 0 = n }
 

@@ -10,11 +10,12 @@ infixr 30 _then_
 pub data Check : Type 0 where
   _⇒_ : Bool → ℕ → Check
 
--- what the checks come to
+-- what checks come to: nothing is refused, or a number
 pub data Verdict : Type 0 where
   good : Verdict
   refuse : ℕ → Verdict
 
+-- the first check that holds decides
 unfoldable pub verdict : List Check → Verdict
 verdict [] = good
 verdict ((b ⇒ n) ∷ rest) = cond b (refuse n) (verdict rest)

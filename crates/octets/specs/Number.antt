@@ -18,15 +18,18 @@ unfoldable pub be48 : List ℕ → ℕ → ℕ
 unfolding be16 be32
 be48 o at = be16 o at * 4294967296 + be32 o (at + 2)
 
--- the promises: of `octet`, `word16`, `word32` and `word48`
+-- the promises: of `octet`
 abbrev pub Octet : List ℕ → ℕ → ℕ → Type 0
 Octet o at r = r ≡ getD o at 0
 
+-- of `word16`
 abbrev pub Word16 : List ℕ → ℕ → ℕ → Type 0
 Word16 o at r = r ≡ be16 o at
 
+-- of `word32`
 abbrev pub Word32 : List ℕ → ℕ → ℕ → Type 0
 Word32 o at r = r ≡ be32 o at
 
+-- of `word48`
 abbrev pub Word48 : List ℕ → ℕ → ℕ → Type 0
 Word48 o at r = r ≡ be48 o at

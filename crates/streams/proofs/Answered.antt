@@ -2,7 +2,7 @@
 use Prim.Native.Nat.{ℕ}
 use mathlib.Core.Path.{_≡_, refl, sym}
 use mathlib.Core.List.{List, [], _∷_}
-use Rattle.octets.specs.Checks.{Verdict, good, refuse, verdict, _then_}
+use Rattle.octets.specs.Checks.{Verdict, good, refuse, _then_}
 use Rattle.octets.proofs.Bools.{by-cases}
 use Rattle.frame.specs.declared.Header.{Header}
 use Rattle.frame.specs.declared.Reading.the-variants as Reading

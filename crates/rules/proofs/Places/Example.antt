@@ -4,7 +4,8 @@ use mathlib.Core.Bool.{true, false}
 use mathlib.Core.List.{List, [], _∷_}
 use Prim.Native.Nat.{ℕ, _+_}
 use lib.ListN.{length}
-use Rattle.rules.specs.Places.{newestPlace, firstPlace, among, near, nearest, place, passes, after, passed, unpassed, window, movedOn, lost, stillOpen}
+use Rattle.rules.specs.Places.{newestPlace, firstPlace, among, near, nearest, place, passes, after, passed}
+use Rattle.rules.specs.Places.{unpassed, window, movedOn, lost, stillOpen}
 
 -- H 4, packets 10 10 12 11 20, latest first: 10, 12 and 11 pass
 abbrev bench : List ℕ

@@ -14,7 +14,7 @@ use Rattle.marks.specs.declared.Marks.{Marks}
 use Rattle.marks.specs.Window.{most, mark, slid}
 use Rattle.rules.specs.Difference.{Difference, difference}
 use Rattle.rules.specs.declared.Effect.{Effect}
-use Rattle.rules.specs.Effects.{accepted, discarded}
+use Rattle.rules.specs.Effects.{discarded}
 use Rattle.rules.specs.Vector.{late, onward, vector}
 use Rattle.rules.specs.Places.{among, newestPlace, firstPlace, place, passes, after, unpassed, movedOn, lost}
 use Rattle.rules.proofs.VectorLaws.{rogue-ahead, goes-onward, rogue-behind, comes-late}
