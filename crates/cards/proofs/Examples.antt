@@ -1,47 +1,19 @@
--- Worked examples, computed from the written rules: document 01's volts, what stands next, a walk, and the edges of a calibration.
--- Assumes nothing.
+-- Worked examples, computed from the written rules: what stands next, and a walk. Assumes nothing.
 use mathlib.Core.Path.{_≡_, refl}
-use mathlib.Core.Bool.{Bool, true, false}
 use mathlib.Core.List.{List, [], _∷_, map}
 use Prim.Native.Nat.{ℕ}
-use lib.Ieee.{Float, binary64, ofBits, ofInt, neg, lt, le, add, mul}
 use Rattle.octets.specs.Number.{be16, be32}
 use Rattle.cards.specs.Payload.{nextCard}
 use Rattle.cards.specs.Walk.{walk}
-use Rattle.cards.specs.Reading.{number, accepted, reading}
 use Rattle.cards.specs.declared.Card.{Card}
 use Rattle.cards.specs.declared.Card.the-variants as card
-use Rattle.cards.specs.declared.Calibration.{Calibration}
-use Rattle.cards.specs.declared.Volts.the-variants as volts
 
--- a double by its bits
-abbrev double : ℕ → Float
-double = ofBits binary64
+pub record Case : Type 0 where
+  pub given : List ℕ
+  pub answer : Card
 
--- "Raw 10, gain 0.25, offset 0.5 is 3.0"
-pub raw-ten : reading (0x11 ∷ 0 ∷ 10 ∷ []) (record { gain = double 0x3fd0_0000_0000_0000; offset = double 0x3fe0_0000_0000_0000 })
-    ≡ volts.FromRawCode (number 3)
-unfolding ofBits ofInt lt le neg mul add be16 reading
-raw-ten = refl
-
--- "rounded after each operation": three thirds are 1 after the first rounding, so nothing is left; a fused step would leave -2 ^ -54
-pub two-roundings : reading (0x11 ∷ 0 ∷ 3 ∷ []) (record { gain = double 0x3fd5_5555_5555_5555; offset = neg (number 1) })
-    ≡ volts.FromRawCode (number 0)
-unfolding ofBits ofInt lt le neg mul add be16 reading
-two-roundings = refl
-
--- 22 comes before 20 and 21
-pub order : map (λ o. reading o (record { gain = number 0; offset = number 0 })) ((0x13 ∷ []) ∷ (0x11 ∷ 0 ∷ []) ∷ [] ∷ [])
-    ≡ volts.Refused 22 ∷ volts.Refused 22 ∷ volts.Refused 22 ∷ []
-unfolding ofInt lt le reading
-order = refl
-
-pub record Case (A B : Type 0) : Type 0 where
-  pub given : A
-  pub answer : B
-
--- ---- what stands next
-abbrev payloads : List (Case (List ℕ) Card)
+-- what stands next
+abbrev payloads : List Case
 payloads =
     record { given = []; answer = card.End }
     ∷ record { given = 0x00 ∷ 0x11 ∷ 0 ∷ 1 ∷ []; answer = card.End }
@@ -67,44 +39,3 @@ pub a-walk : walk (0x12 ∷ 0x2e ∷ 0xe0 ∷ 0x10 ∷ 0 ∷ 0 ∷ 0 ∷ 9 ∷ 0
 }
 unfolding walk nextCard be16 be32
 a-walk = refl
-
--- ---- both sides of each edge of a calibration
-abbrev gain : ℕ → Bool → Case Calibration Bool
-gain bits ok = record { given = record { gain = double bits; offset = number 0 }; answer = ok }
-
-abbrev offset : ℕ → Bool → Case Calibration Bool
-offset bits ok = record { given = record { gain = number 1; offset = double bits }; answer = ok }
-
-abbrev calibrations : List (Case Calibration Bool)
-calibrations =
-    -- not a number, both infinities, both zeros
-    gain 0x7ff8_0000_0000_0000 false
-    ∷ gain 0x7ff0_0000_0000_0000 false
-    ∷ gain 0xfff0_0000_0000_0000 false
-    ∷ gain 0x0000_0000_0000_0000 false
-    ∷ gain 0x8000_0000_0000_0000 false
-    -- the least positive double, and the greatest negative
-    ∷ gain 0x0000_0000_0000_0001 true
-    ∷ gain 0x8000_0000_0000_0001 false
-    -- 1 and its neighbours
-    ∷ gain 0x3fef_ffff_ffff_ffff true
-    ∷ gain 0x3ff0_0000_0000_0000 true
-    ∷ gain 0x3ff0_0000_0000_0001 false
-    -- not a number, both infinities, both zeros
-    ∷ offset 0x7ff8_0000_0000_0000 false
-    ∷ offset 0x7ff0_0000_0000_0000 false
-    ∷ offset 0xfff0_0000_0000_0000 false
-    ∷ offset 0x0000_0000_0000_0000 true
-    ∷ offset 0x8000_0000_0000_0000 true
-    -- 100 and -100, each with its neighbours
-    ∷ offset 0x4058_ffff_ffff_ffff true
-    ∷ offset 0x4059_0000_0000_0000 true
-    ∷ offset 0x4059_0000_0000_0001 false
-    ∷ offset 0xc058_ffff_ffff_ffff true
-    ∷ offset 0xc059_0000_0000_0000 true
-    ∷ offset 0xc059_0000_0000_0001 false
-    ∷ []
-
-pub calibration-cases : map (λ k. accepted (k .given)) calibrations ≡ map (λ k. k .answer) calibrations
-unfolding ofBits ofInt lt le neg
-calibration-cases = refl

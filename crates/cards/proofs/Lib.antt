@@ -1,10 +1,6 @@
 pub mod Kind
-pub mod Judged
 pub mod Width
 pub mod Alone
 pub mod Walk
-pub mod Rounded
-pub mod Between
-pub mod Bounds
 pub mod Unique
 pub mod Examples

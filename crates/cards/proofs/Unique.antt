@@ -1,14 +1,10 @@
--- Two answers that a promise allows are equal. Of volts that says that both are the same number with the same sign: a double is one value
--- of the logic's, zeros have their sign, and the one `nan` never comes (`reading-bounded`). Assumes nothing.
+-- Two answers that a promise allows are equal. Assumes nothing.
 use mathlib.Core.Path.{_≡_}
 use mathlib.Core.List.{List}
 use Prim.Native.Nat.{ℕ}
 use Rattle.octets.proofs.Unique.{one, handed-one}
 use Rattle.cards.specs.Payload.{Next, HandsCard, HandsRest}
-use Rattle.cards.specs.Reading.{Reads}
 use Rattle.cards.specs.declared.Card.{Card}
-use Rattle.cards.specs.declared.Calibration.{Calibration}
-use Rattle.cards.specs.declared.Volts.{Volts}
 
 pub next-unique : (o : List ℕ) (r s : Card) → Next o r → Next o s → r ≡ s
 next-unique o r s = one
@@ -19,6 +15,3 @@ module _ (o : List ℕ) {at : ℕ × ℕ} {p p′ : List ℕ} {q q′ : ℕ × �
 
   pub rest-unique : HandsRest o at p q → HandsRest o at p′ q′ → (p ≡ p′) × (q ≡ q′)
   rest-unique = handed-one
-
-pub read-unique : (o : List ℕ) (c : Calibration) (r s : Volts) → Reads o c r → Reads o c s → r ≡ s
-read-unique o c r s = one

@@ -1,4 +1,2 @@
 pub mod Payload
 pub mod Walk
-pub mod Reading
-pub mod Bounds

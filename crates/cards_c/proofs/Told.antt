@@ -6,9 +6,9 @@ use lib.ListN.{length}
 use lib.Ieee.{Float}
 use Rattle.octets.specs.Part.{HandedBack}
 use Rattle.cards.specs.declared.Card.{Card}
-use Rattle.cards.specs.declared.Volts.{Volts}
+use Rattle.volts.specs.declared.Volts.{Volts}
 use Rattle.cards.specs.Payload.{Next}
-use Rattle.cards.specs.Reading.{Reads}
+use Rattle.volts.specs.Reading.{ReadsVolts}
 use Rattle.cards_c.specs.Charge.{ofCard, valueBy, NextTo, ofVolts, voltsBy, calibration, VoltsTo}
 
 -- what stands next
@@ -21,6 +21,6 @@ pub length-told : {at : ℕ × ℕ} {octets : List ℕ} {start : ℕ} {part : Li
 length-told p = ap (λ (l : List ℕ). length l) (p .holds)
 
 -- the volts of the next card
-pub volts-told : {o : List ℕ} {gain offset before : Float} {v : Volts} → Reads o (calibration gain offset) v
+pub volts-told : {o : List ℕ} {gain offset before : Float} {v : Volts} → ReadsVolts o (calibration gain offset) v
     → VoltsTo o gain offset before (ofVolts v) (voltsBy v before)
 volts-told {before = before} e = record { answer = ap ofVolts e; volts = ap (λ (x : Volts). voltsBy x before) e }

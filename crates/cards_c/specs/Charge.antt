@@ -1,16 +1,16 @@
--- Document 01, "Charge cards", for C: what the calls answer and write, by the cards room's own definitions. Assumes nothing.
+-- Document 01, "Charge cards", for C: what the calls answer and write, by the definitions of `cards` and `volts`. Assumes nothing.
 use Prim.Native.Nat.{ℕ}
 use mathlib.Core.Path.{_≡_}
 use mathlib.Core.List.{List}
 use lib.ListN.{length}
 use lib.Ieee.{Float}
-use Rattle.cards.specs.declared.Calibration.{Calibration}
+use Rattle.volts.specs.declared.Calibration.{Calibration}
 use Rattle.cards.specs.declared.Card.{Card}
 use Rattle.cards.specs.declared.Card.the-variants as card
-use Rattle.cards.specs.declared.Volts.{Volts}
-use Rattle.cards.specs.declared.Volts.the-variants as volts
+use Rattle.volts.specs.declared.Volts.{Volts}
+use Rattle.volts.specs.declared.Volts.the-variants as volts
 use Rattle.cards.specs.Payload.{nextCard, cardPart, restPart}
-use Rattle.cards.specs.Reading.{reading}
+use Rattle.volts.specs.Reading.{reading}
 
 -- a card, an end, or the refusal, as a number
 abbrev pub ofCard : Card → ℕ

@@ -1,7 +1,7 @@
 // "Charge cards" (document 01) for C: a card as its answer and its value, its part and the rest as lengths, volts as a double.
-use cards::Calibration;
 use cards::Card;
-use cards::Volts;
+use volts::Calibration;
+use volts::Volts;
 ghost use Rattle.cards_c.specs.Charge.{NextTo, CardOctets, RestOctets, VoltsTo};
 
 // What stands next, and its value where it has one.
@@ -50,7 +50,7 @@ pub extern "C" fn ahz_rest_octets(payload: &[u8]) -> usize
 pub extern "C" fn ahz_volts(payload: &[u8], gain: f64, offset: f64, volts: &mut f64) -> u8
     ensures { λ r. ⌜ VoltsTo (now (payload .entry)) gain offset (now (volts .entry)) r (now (volts .exit)) ⌝ }
 {
-    match cards::read(payload, Calibration { gain, offset }) {
+    match volts::read(payload, Calibration { gain, offset }) {
         Volts::FromRawCode(v) => {
             *volts = v;
             104

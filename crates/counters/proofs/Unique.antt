@@ -5,11 +5,11 @@ use mathlib.Core.Bool.{Bool}
 use Rattle.octets.proofs.Unique.{one}
 use Rattle.rules.specs.declared.Effect.{Effect}
 use Rattle.counters.specs.declared.Counters.{Counters}
-use Rattle.counters.specs.Counting.{Nones, Counts, CountsReset}
+use Rattle.counters.specs.Counting.{StartsAtZero, Counts, CountsReset}
 use Rattle.counters.specs.LatentErrors.{GivesFigure, TellsError, CountsLatentReset}
 
-pub nones-one : {a b : Counters} → Nones a → Nones b → a ≡ b
-nones-one = one
+pub starts-at-zero-one : {a b : Counters} → StartsAtZero a → StartsAtZero b → a ≡ b
+starts-at-zero-one = one
 
 module _ (k : Counters) where
   pub counts-one : (tagless : ℕ) (effect : Effect) {a b : Counters} → Counts k tagless effect a → Counts k tagless effect b → a ≡ b

@@ -52,8 +52,8 @@ resetCounted k =
     }
 
 -- the promises: of `none`
-abbrev pub Nones : Counters → Type 0
-Nones r = r ≡ noCounts
+abbrev pub StartsAtZero : Counters → Type 0
+StartsAtZero r = r ≡ noCounts
 
 -- of `count`
 abbrev pub Counts : Counters → ℕ → Effect → Counters → Type 0

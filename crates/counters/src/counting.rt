@@ -1,10 +1,10 @@
 // No counts yet, and one packet or one reset more.
-ghost use Rattle.counters.specs.Counting.{Nones, Counts, CountsReset};
+ghost use Rattle.counters.specs.Counting.{StartsAtZero, Counts, CountsReset};
 use crate::Counters;
 use rules::Effect;
 
 pub fn none() -> Counters
-    ensures { λ r. ⌜ Nones r ⌝ }
+    ensures { λ r. ⌜ StartsAtZero r ⌝ }
 {
     Counters {
         passed: 0,

@@ -1,5 +1,5 @@
-// "Both sides of each edge" (document 01): every case is run, and what it gave is printed. The frame cases are frames of zeros with a tag or
-// two put in. The cases with a star are proved besides, in proofs/Starred.antt.
+// "Both sides of each edge" (document 01): every case is run, and what it gave is printed. The frame cases are frames of zeros with a tag
+// or two put in. The cases with a star are proved besides, in proofs/Starred.antt.
 use frame::Reading;
 use libc::STDOUT_FILENO;
 use recovery::Begun;
@@ -93,7 +93,7 @@ fn insert_case(title: &[u8], length: usize) {
     io::write_all(STDOUT_FILENO, title);
     let octets = [0u8; 1523];
     let mut out = [0u8; 1523];
-    match tag::insert(front(&octets, length), 258, &mut out) {
+    match insertion::insert(front(&octets, length), 258, &mut out) {
         tag::Written::Length(n) => answer(b"length ", n as u64),
         tag::Written::Refused(number) => answer(b"refused ", number as u64),
     }
@@ -104,7 +104,7 @@ fn tag_case(title: &[u8]) {
     io::write_all(STDOUT_FILENO, title);
     let octets = [0u8; 14];
     let mut out = [0u8; 20];
-    tag::insert(&octets, 258, &mut out);
+    insertion::insert(&octets, 258, &mut out);
     io::print_hex(STDOUT_FILENO, octets::word48(&out, 12), 12);
     io::write_all(STDOUT_FILENO, b"\n");
 }

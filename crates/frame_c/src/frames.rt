@@ -44,9 +44,10 @@ pub extern "C" fn ahz_payload(frame: &[u8]) -> usize
 // The frame with an R-TAG, written to `out`, and its length.
 #[no_mangle]
 pub extern "C" fn ahz_insert(frame: &[u8], number: u16, out: &mut [u8], length: &mut usize) -> u8
-    ensures { λ r. ⌜ InsertsTo (now (frame .entry)) number (now (out .entry)) (now (length .entry)) r (now (out .exit)) (now (length .exit)) ⌝ }
+    ensures { λ r.
+        ⌜ InsertsTo (now (frame .entry)) number (now (out .entry)) (now (length .entry)) r (now (out .exit)) (now (length .exit)) ⌝ }
 {
-    tell(tag::insert(frame, number, out), length)
+    tell(insertion::insert(frame, number, out), length)
 }
 
 // The frame without its R-TAG, written to `out`, and its length.
@@ -54,7 +55,7 @@ pub extern "C" fn ahz_insert(frame: &[u8], number: u16, out: &mut [u8], length: 
 pub extern "C" fn ahz_remove(frame: &[u8], out: &mut [u8], length: &mut usize) -> u8
     ensures { λ r. ⌜ RemovesTo (now (frame .entry)) (now (out .entry)) (now (length .entry)) r (now (out .exit)) (now (length .exit)) ⌝ }
 {
-    tell(tag::remove(frame, out), length)
+    tell(removal::remove(frame, out), length)
 }
 
 // The length of what was written, and 0; or the refusal.

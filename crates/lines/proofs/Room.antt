@@ -10,7 +10,7 @@ use borrow.Author.Tests.{leb-true, leb-false, le-leb, lt-leb}
 use Rattle.octets.proofs.Bools.{by-cases}
 use Rattle.lines.specs.Lines.{longest}
 use Rattle.lines.specs.Words.{putAt, Appends}
-use Rattle.lines.specs.Page.{hasRoom, Writes}
+use Rattle.lines.specs.Page.{hasRoom, WritesLine}
 use Rattle.lines.proofs.Growth.{put-front, put-length}
 
 -- as the code tests it, without a sum that could wrap
@@ -22,10 +22,10 @@ tested at long p =
 
 module _ (line page : List ℕ) (at : ℕ) where
   pub with-room : {r : ℕ} {later : List ℕ} → hasRoom page at ≡ true → r ≤ at + longest → Appends line page at r later
-      → Writes line page at r later
+      → WritesLine line page at r later
   with-room room short x = record { answer = rw room (x .ends); buffer = rw room (x .buffer); short = short }
 
-  pub without-room : hasRoom page at ≡ false → Writes line page at at page
+  pub without-room : hasRoom page at ≡ false → WritesLine line page at at page
   without-room none = record { answer = rw none; buffer = rw none; short = omega arith }
 
 -- where there is room: what the page's front is then, for those who write line after line
@@ -35,7 +35,7 @@ pub record Shown (line page : List ℕ) (at r : ℕ) (later : List ℕ) : Type 0
   pub same : length later ≡ length page
   pub within : r ≤ length later
 
-pub shown : {line page : List ℕ} {at r : ℕ} {later : List ℕ} → at + longest ≤ length page → Writes line page at r later
+pub shown : {line page : List ℕ} {at r : ℕ} {later : List ℕ} → at + longest ≤ length page → WritesLine line page at r later
     → Shown line page at r later
 shown {line} {page} {at} {r} {later} room w =
     let has = le-leb (at + longest) (length page) room in

@@ -3,8 +3,8 @@ use Prim.Native.Nat.{ℕ}
 use mathlib.Core.Path.{_≡_}
 use mathlib.Core.List.{List}
 use Rattle.octets.proofs.Unique.{one}
-use Rattle.lines.specs.Page.{Writes}
+use Rattle.lines.specs.Page.{WritesLine}
 
-pub writes-one : {line page : List ℕ} {at r r′ : ℕ} {l l′ : List ℕ} → Writes line page at r l → Writes line page at r′ l′
+pub writes-line-one : {line page : List ℕ} {at r r′ : ℕ} {l l′ : List ℕ} → WritesLine line page at r l → WritesLine line page at r′ l′
     → (r ≡ r′) × (l ≡ l′)
-writes-one p q = (one (p .answer) (q .answer), one (p .buffer) (q .buffer))
+writes-line-one p q = (one (p .answer) (q .answer), one (p .buffer) (q .buffer))

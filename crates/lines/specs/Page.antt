@@ -14,7 +14,7 @@ hasRoom page at = leb (at + longest) (length page)
 
 -- where there is room the line stands behind the first `at` octets of the page, and the answer is where it ends; else the page stays,
 -- and the answer is the place
-pub record Writes (line page : List ℕ) (at r : ℕ) (later : List ℕ) : Type 0 where
+pub record WritesLine (line page : List ℕ) (at r : ℕ) (later : List ℕ) : Type 0 where
   pub answer : r ≡ cond (hasRoom page at) (at + length line) at
   pub buffer : later ≡ cond (hasRoom page at) (putAt at line page) page
   pub short : r ≤ at + longest

@@ -6,7 +6,7 @@ ghost use lib.ListN.{length};
 ghost use lib.Dec.{leb};
 ghost use Rattle.lines.specs.Lines.{decimal, text, faultText, countersText, longest};
 ghost use Rattle.lines.specs.Words.{wordAt, AppendsWithin};
-ghost use Rattle.lines.specs.Page.{Writes};
+ghost use Rattle.lines.specs.Page.{WritesLine};
 use crate::Line;
 use crate::words::FAULT;
 use crate::words::LABELS;
@@ -40,7 +40,7 @@ fn count(i: usize, n: u64, page: &mut [u8], at: usize) -> usize
 
 // The line of an event.
 pub fn write(line: Line, page: &mut [u8], at: usize) -> usize
-    ensures { λ r. ⌜ Writes (text line) (now (page .entry)) at r (now (page .exit)) ⌝ }
+    ensures { λ r. ⌜ WritesLine (text line) (now (page .entry)) at r (now (page .exit)) ⌝ }
 {
     if has_room(page.len(), at) {
         word(place(line), page, at)
@@ -51,7 +51,7 @@ pub fn write(line: Line, page: &mut [u8], at: usize) -> usize
 
 // The line of a fault.
 pub fn fault(number: u8, page: &mut [u8], at: usize) -> usize
-    ensures { λ r. ⌜ Writes (faultText number) (now (page .entry)) at r (now (page .exit)) ⌝ }
+    ensures { λ r. ⌜ WritesLine (faultText number) (now (page .entry)) at r (now (page .exit)) ⌝ }
 {
     if has_room(page.len(), at) {
         let behind = count(FAULT, number as u64, page, at);
@@ -63,7 +63,7 @@ pub fn fault(number: u8, page: &mut [u8], at: usize) -> usize
 
 // The last line of a tape without a fault: the eight counters, each behind its label.
 pub fn counts(counters: [u64; 8], page: &mut [u8], at: usize) -> usize
-    ensures { λ r. ⌜ Writes (countersText counters) (now (page .entry)) at r (now (page .exit)) ⌝ }
+    ensures { λ r. ⌜ WritesLine (countersText counters) (now (page .entry)) at r (now (page .exit)) ⌝ }
 {
     if has_room(page.len(), at) {
         let mut end = at;

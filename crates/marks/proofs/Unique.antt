@@ -5,10 +5,10 @@ use mathlib.Core.Bool.{Bool}
 use Rattle.octets.proofs.Unique.{one}
 use Rattle.marks.specs.declared.Marks.{Marks}
 use Rattle.marks.specs.declared.Slid.{Slid}
-use Rattle.marks.specs.Window.{Nones, ClearsFrom, IsSet, Sets, Slides}
+use Rattle.marks.specs.Window.{StartsClear, ClearsFrom, IsSet, Sets, Slides}
 
-pub nones-one : {a b : Marks} → Nones a → Nones b → a ≡ b
-nones-one = one
+pub starts-clear-one : {a b : Marks} → StartsClear a → StartsClear b → a ≡ b
+starts-clear-one = one
 
 module _ (marks : Marks) where
   pub clears-from-one : (h : ℕ) {a b : Bool} → ClearsFrom marks h a → ClearsFrom marks h b → a ≡ b

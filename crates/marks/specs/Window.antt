@@ -60,8 +60,8 @@ lostIn h zero marks = 0
 lostIn h (suc d) marks = lostBy h marks + lostIn h d (moved h marks)
 
 -- the promises: of `none`
-abbrev pub Nones : Marks → Type 0
-Nones r = r ≡ none
+abbrev pub StartsClear : Marks → Type 0
+StartsClear r = r ≡ none
 
 -- of `clear_from`
 abbrev pub ClearsFrom : Marks → ℕ → Bool → Type 0

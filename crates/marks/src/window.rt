@@ -1,5 +1,5 @@
 // What is asked of the marks and done to them.
-ghost use Rattle.marks.specs.Window.{reach, moved, lostBy, Nones, ClearsFrom, IsSet, Sets, Slides};
+ghost use Rattle.marks.specs.Window.{reach, moved, lostBy, StartsClear, ClearsFrom, IsSet, Sets, Slides};
 ghost use mathlib.Core.Path.{_≡_};
 ghost use Prim.Native.Nat.{_-_};
 use crate::Marks;
@@ -9,7 +9,7 @@ use crate::Slid;
 const MOST: u32 = 64;
 
 pub fn none() -> Marks
-    ensures { λ r. ⌜ Nones r ⌝ }
+    ensures { λ r. ⌜ StartsClear r ⌝ }
 {
     Marks(0)
 }

@@ -35,17 +35,14 @@ fn punch(text: &[u8], tape: &mut [u8]) -> Punch {
 fn complain(line: u64, wrong: u8) {
     io::write_all(STDERR_FILENO, b"line ");
     io::print_decimal(STDERR_FILENO, line);
-    if wrong == words::NO_EVENT {
-        io::write_all(STDERR_FILENO, b": no such event\n");
-    } else if wrong == words::NO_NUMBER {
-        io::write_all(STDERR_FILENO, b": not a number that fits here\n");
-    } else if wrong == words::TOO_FEW {
-        io::write_all(STDERR_FILENO, b": a word is missing\n");
-    } else if wrong == words::TOO_MANY {
-        io::write_all(STDERR_FILENO, b": a word too many\n");
-    } else {
-        io::write_all(STDERR_FILENO, b": no room for more octets\n");
+    match wrong {
+        words::NO_EVENT => io::write_all(STDERR_FILENO, b": no such event\n"),
+        words::NO_NUMBER => io::write_all(STDERR_FILENO, b": not a number that fits here\n"),
+        words::TOO_FEW => io::write_all(STDERR_FILENO, b": a word is missing\n"),
+        words::TOO_MANY => io::write_all(STDERR_FILENO, b": a word too many\n"),
+        _ => io::write_all(STDERR_FILENO, b": no room for more octets\n"),
     }
+    ;
 }
 
 fn main() {

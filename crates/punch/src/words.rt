@@ -193,26 +193,23 @@ fn push_latent(p: Punch, tape: &mut [u8]) -> Punch {
     wrong(p, NO_EVENT)
 }
 
+// The event that a word names, and 0 where it names none.
+fn event_of(key: u64) -> u8 {
+    match key {
+        0x7061636B6574 => PACKET,
+        0x6E6F6E65 => NONE,
+        0x7469636B => TICK,
+        0x7265736574 => RESET,
+        0x6C6174656E74 => LATENT,
+        0x7365747570 => SETUP,
+        0x6F6374657473 => OCTETS,
+        _ => 0,
+    }
+}
+
 // The line's first word.
 fn first_word(mut p: Punch, tape: &mut [u8]) -> Punch {
-    let key = p.key;
-    let event = if key == 0x7061636B6574 {
-        PACKET
-    } else if key == 0x6E6F6E65 {
-        NONE
-    } else if key == 0x7469636B {
-        TICK
-    } else if key == 0x7265736574 {
-        RESET
-    } else if key == 0x6C6174656E74 {
-        LATENT
-    } else if key == 0x7365747570 {
-        SETUP
-    } else if key == 0x6F6374657473 {
-        OCTETS
-    } else {
-        0
-    };
+    let event = event_of(p.key);
     p.event = event;
     if event == 0 {
         p.wrong = NO_EVENT;
@@ -253,16 +250,18 @@ fn next_word(mut p: Punch, tape: &mut [u8]) -> Punch {
         return p;
     }
     if event == SETUP {
-        push_setup(p, tape)
-    } else if event == PACKET {
-        push_number(p, 2, tape)
-    } else if event == TICK {
-        push_ticks(p, tape)
-    } else if event == LATENT {
-        push_latent(p, tape)
-    } else {
-        push_octet(p, tape)
+        return push_setup(p, tape);
     }
+    if event == PACKET {
+        return push_number(p, 2, tape);
+    }
+    if event == TICK {
+        return push_ticks(p, tape);
+    }
+    if event == LATENT {
+        return push_latent(p, tape);
+    }
+    push_octet(p, tape)
 }
 
 // A word has ended, if there was one.
@@ -282,14 +281,14 @@ fn word(p: Punch, tape: &mut [u8]) -> Punch {
     q
 }
 
-// A line has ended.
-fn line(mut p: Punch) -> Punch {
-    let event = p.event;
-    if (event != 0) & (event != COMMENT) & (p.words < fewest_words(event)) {
-        p.wrong = TOO_FEW;
-    }
+// A line has ended; one that is wrong stays.
+fn line(p: Punch) -> Punch {
     if p.wrong != 0 {
         return p;
+    }
+    let event = p.event;
+    if (event != 0) & (event != COMMENT) & (p.words < fewest_words(event)) {
+        return wrong(p, TOO_FEW);
     }
     at_line(std::num::wrapping_add_u64(p.line, 1), 0, p.length)
 }
@@ -326,8 +325,7 @@ pub fn step(p: Punch, octet: u8, tape: &mut [u8]) -> Punch {
         return p;
     }
     if octet == b'\n' {
-        let q = word(p, tape);
-        return if q.wrong != 0 { q } else { line(q) };
+        return line(word(p, tape));
     }
     if (octet == b' ') | (octet == 9) | (octet == 13) {
         return word(p, tape);

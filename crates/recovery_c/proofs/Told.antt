@@ -13,20 +13,20 @@ use Rattle.calls.specs.declared.Called.{Called}
 use Rattle.calls.specs.Answering.{answered, Answers}
 use Rattle.answers.specs.Numbers.{numberOf}
 use Rattle.states.specs.declared.Held.the-variants as held-in
-use Rattle.states.specs.Fields.{held, stateOf, Reads, Keeps}
+use Rattle.states.specs.Fields.{held, stateOf, ReadsState, Keeps}
 use Rattle.states.proofs.ReadLaws.{read-state, read-nothing}
 use Rattle.states.proofs.SameWords.{holds}
 use Rattle.recovery_c.specs.Recoveries.{StepsTo, TestsTo, BeginsTo}
 
 -- words that hold no state, and words that do
 module _ (w : List ℕ) where
-  pub unfit-told : {call : Call} → Reads w held-in.Nothing → StepsTo call w 14 w
+  pub unfit-told : {call : Call} → ReadsState w held-in.Nothing → StepsTo call w 14 w
   unfit-told p = let e = read-nothing w p in record { answer = rw e; words = rw e }
 
-  pub unfit-tested : Reads w held-in.Nothing → TestsTo w 14
+  pub unfit-tested : ReadsState w held-in.Nothing → TestsTo w 14
   unfit-tested p = rw (read-nothing w p)
 
-  module _ (call : Call) {s : State} {called : Called} {r : ℕ} (p : Reads w (held-in.State s)) (a : Answers s call called)
+  module _ (call : Call) {s : State} {called : Called} {r : ℕ} (p : ReadsState w (held-in.State s)) (a : Answers s call called)
       (e : r ≡ numberOf (called .answer)) where
     there : called ≡ answered (stateOf w) call
     there = a ∙ ap (λ (t : State). answered t call) (read-state w p .1)

@@ -8,7 +8,7 @@ use Rattle.octets.proofs.Bools.{either}
 use Rattle.recovery.specs.declared.State.{State}
 use Rattle.states.specs.declared.Held.{Held}
 use Rattle.states.specs.declared.Held.the-variants as held-in
-use Rattle.states.specs.Fields.{held, stateOf, Reads}
+use Rattle.states.specs.Fields.{held, stateOf, ReadsState}
 
 same : {s t : State} → held-in.State s ≡ held-in.State t → s ≡ t
 same e = cc
@@ -20,13 +20,13 @@ differs-too : {s : State} → held-in.Nothing ≡ held-in.State s → ⊥
 differs-too e = let z : _≡_ {A = ℕ} 0 1 = cc in omega arith
 
 module _ (w : List ℕ) where
-  pub read-state : {s : State} → Reads w (held-in.State s) → (held w ≡ true) × (s ≡ stateOf w)
+  pub read-state : {s : State} → ReadsState w (held-in.State s) → (held w ≡ true) × (s ≡ stateOf w)
   read-state {s} =
       either (λ (r : Held). held-in.State s ≡ r → (held w ≡ true) × (s ≡ stateOf w)) (held w)
       (λ yes e. (yes, same e))
       (λ _ e. absurd (differs e))
 
-  pub read-nothing : Reads w held-in.Nothing → held w ≡ false
+  pub read-nothing : ReadsState w held-in.Nothing → held w ≡ false
   read-nothing =
       either (λ (r : Held). held-in.Nothing ≡ r → held w ≡ false) (held w)
       (λ _ e. absurd (differs-too e))

@@ -6,10 +6,10 @@ use mathlib.Core.List.{List}
 use Rattle.octets.proofs.Unique.{one}
 use Rattle.recovery.specs.declared.State.{State}
 use Rattle.states.specs.declared.Held.{Held}
-use Rattle.states.specs.Fields.{Reads, Keeps}
+use Rattle.states.specs.Fields.{ReadsState, Keeps}
 
 module _ (w : List ℕ) where
-  pub reads-one : {a b : Held} → Reads w a → Reads w b → a ≡ b
+  pub reads-one : {a b : Held} → ReadsState w a → ReadsState w b → a ≡ b
   reads-one = one
 
   pub keeps-one : (s : State) {a b : Bool} {l m : List ℕ} → Keeps s w a l → Keeps s w b m → (a ≡ b) × (l ≡ m)

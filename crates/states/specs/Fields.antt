@@ -112,8 +112,8 @@ stateOf w =
     }
 
 -- the promises: of `read`, the state of words that hold one
-abbrev pub Reads : List ℕ → Held → Type 0
-Reads w r = r ≡ cond (held w) (held-in.State (stateOf w)) held-in.Nothing
+abbrev pub ReadsState : List ℕ → Held → Type 0
+ReadsState w r = r ≡ cond (held w) (held-in.State (stateOf w)) held-in.Nothing
 
 -- of `keep`: twenty words become those of the state, and more or fewer "keep their values"
 pub record Keeps (s : State) (w : List ℕ) (r : Bool) (later : List ℕ) : Type 0 where

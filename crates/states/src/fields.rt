@@ -9,7 +9,7 @@ use setup::Ticks;
 ghost use mathlib.Core.Path.{_≡_};
 ghost use mathlib.Core.Bool.{cond};
 ghost use lib.ListN.{length};
-ghost use Rattle.states.specs.Fields.{Holds, fieldsFit, held, setupIn, countersIn, stateOf, wordsOf, Reads, Keeps};
+ghost use Rattle.states.specs.Fields.{Holds, fieldsFit, held, setupIn, countersIn, stateOf, wordsOf, ReadsState, Keeps};
 
 fn fields_fit(state: &[u64]) -> bool
     requires { ⌜ length (now state) ≡ 20 ⌝ }
@@ -92,7 +92,7 @@ fn unpack(state: &[u64]) -> State
 
 // The state that the words hold.
 pub fn read(state: &[u64]) -> Held
-    ensures { λ r. ⌜ Reads (now (state .entry)) r ⌝ }
+    ensures { λ r. ⌜ ReadsState (now (state .entry)) r ⌝ }
 {
     if hold(state) {
         Held::State(unpack(state))

@@ -1,11 +1,6 @@
-// The R-TAG of a lent frame, put in and taken off. The result goes to a second buffer.
+// What it means that the R-TAG of a lent frame is put in (`insertion`) and taken off (`removal`): definitions, and the round trips as laws.
 //
-// Whatever octets come in, each call answers or refuses by document 01's number, and a refusal leaves the lent output as it was.
-mod insertion;
-mod removal;
-
-pub use insertion::insert;
-pub use removal::remove;
+// Whatever octets come in, each of the two answers or refuses by document 01's number, and a refusal leaves the lent output as it was.
 
 // What insertion and removal answer: the result's length, or the refusal.
 pub enum Written {

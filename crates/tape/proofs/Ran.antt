@@ -11,7 +11,7 @@ use Rattle.octets.specs.Copy.{fits, putIn, Puts}
 use Rattle.octets.proofs.Bools.{by-cases}
 use Rattle.tape.specs.declared.Written.{Written}
 use Rattle.tape.specs.declared.Written.the-variants as written
-use Rattle.tape.specs.Player.{enough, outputOf, Holds, Runs}
+use Rattle.tape.specs.Player.{enough, outputOf, PageHolds, Runs}
 
 -- a length is no refusal, and two lengths that are equal are one
 is : {n m : ℕ} → written.Length n ≡ written.Length m → n ≡ m
@@ -20,7 +20,7 @@ is e = cc
 refused : {n m k : ℕ} → written.Length n ≡ written.Refused k → n ≤ m
 refused e = let z : _≡_ {A = ℕ} 0 1 = cc in absurd (omega arith)
 
-pub ran : (tape out : List ℕ) {n : ℕ} {page later : List ℕ} {r : Bool} → Holds (outputOf tape) n page → enough ≡ length page
+pub ran : (tape out : List ℕ) {n : ℕ} {page later : List ℕ} {r : Bool} → PageHolds (outputOf tape) n page → enough ≡ length page
     → Puts (take n page) out r later → Runs tape out (cond r (written.Length n) (written.Refused 8)) later
 ran tape out {n} {page} {later} {r} h room p =
     let put : Puts (outputOf tape) out r later = subst (λ (text : List ℕ). Puts text out r later) (h .texts) p in

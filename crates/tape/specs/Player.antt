@@ -66,7 +66,7 @@ abbrev pub enough : ℕ
 enough = 53479
 
 -- what the contracts within this crate cite: the first n octets of the page are the text
-pub record Holds (text : List ℕ) (n : ℕ) (page : List ℕ) : Type 0 where
+pub record PageHolds (text : List ℕ) (n : ℕ) (page : List ℕ) : Type 0 where
   pub within : n ≤ length page
   pub texts : take n page ≡ text
 

@@ -2,7 +2,7 @@
 ghost use mathlib.Core.Path.{_≡_};
 ghost use Prim.Native.Nat.{_≤_};
 ghost use lib.ListN.{length};
-ghost use Rattle.tape.specs.Player.{figures as figuresOf, enough, played, outputOf, Holds, Runs};
+ghost use Rattle.tape.specs.Player.{figures as figuresOf, enough, played, outputOf, PageHolds, Runs};
 use crate::Written;
 use counters::Counters;
 use turns::Bench;
@@ -28,7 +28,7 @@ fn figures(k: Counters) -> [u64; 8]
 fn play(tape: &[u8], page: &mut [u8]) -> usize
     requires { ⌜ length (now tape) ≤ 4096 ⌝ }
     requires { ⌜ enough ≡ length (now page) ⌝ }
-    ensures { λ r. ⌜ Holds (played (now (tape .entry))) r (now (page .exit)) ⌝ }
+    ensures { λ r. ⌜ PageHolds (played (now (tape .entry))) r (now (page .exit)) ⌝ }
 {
     let mut at = 0;
     let mut written = 0;
@@ -49,7 +49,7 @@ fn play(tape: &[u8], page: &mut [u8]) -> usize
 // The whole output: "26 is checked before all else on a tape".
 fn output(tape: &[u8], page: &mut [u8]) -> usize
     requires { ⌜ enough ≡ length (now page) ⌝ }
-    ensures { λ r. ⌜ Holds (outputOf (now (tape .entry))) r (now (page .exit)) ⌝ }
+    ensures { λ r. ⌜ PageHolds (outputOf (now (tape .entry))) r (now (page .exit)) ⌝ }
 {
     if tape.len() > 4096 {
         lines::fault(26, page, 0)

@@ -10,7 +10,7 @@ use Rattle.edges.proofs.hear_case.Tie as tie
 abbrev Inv-loop : tie.InvT-loop
 Inv-loop title rule history numbers state₀ i₀ t15 t16 state i = (i ≤ length numbers) × (8 ≡ length t15) × (8 ≡ length t16)
 
--- the numbers that are left
+-- the measure: the numbers that are left
 abbrev μ-loop : tie.MeasureT-loop
 μ-loop title rule history numbers state₀ i₀ t15 t16 state i = length numbers - i
 

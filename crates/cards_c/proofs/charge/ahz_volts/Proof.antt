@@ -2,7 +2,7 @@
 use mathlib.Core.Path.{_≡_, sym, _∙_}
 use borrow.Author.Needs.{needs}
 use denote.Ref.{now}
-use Rattle.cards.specs.declared.Volts.{Volts}
+use Rattle.volts.specs.declared.Volts.{Volts}
 use Rattle.cards_c.specs.Charge.{ofVolts, voltsBy, VoltsTo}
 use Rattle.cards_c.proofs.Told.{volts-told}
 use Rattle.cards_c.proofs.charge.ahz_volts.Statement.{statement}

@@ -26,7 +26,7 @@ rem-word c = rw (one-shifted (c .before .last .result) (in-word (c .before))) (p
 
 -- the word is the marks doubled and cut off
 word-is : (c : tie.After-last)
-    → c .before .args .marks .0 % (1 * 2 ^ c .last .result % 2 ^ 64) * 2 ≡ c .before .args .marks .0 * 2 % 2 ^ reach (c .before .args .history)
+    → let a = c .before .args in a .marks .0 % (1 * 2 ^ c .last .result % 2 ^ 64) * 2 ≡ a .marks .0 * 2 % 2 ^ reach (a .history)
 word-is c =
     let a = c .before .args in
     rw (one-shifted (c .last .result) (in-word c), c .last .ensures)

@@ -15,7 +15,7 @@ Inv-loop history places marks lost₀ left₀ moving lost left =
     × (lost + lostIn history left moving ≡ lostIn history places marks)
     × (lost + left ≤ places)
 
--- the moves that are left
+-- the measure: the moves that are left
 abbrev μ-loop : tie.MeasureT-loop
 μ-loop history places marks lost₀ left₀ moving lost left = left
 

@@ -12,7 +12,7 @@ use Rattle.streams.proofs.table.walk.Tie as tie
 abbrev Inv-loop : tie.InvT-loop
 Inv-loop table h n found₀ passed₀ at₀ found passed at = Passed table h found passed at
 
--- what is left of the table
+-- the measure: what is left of the table
 abbrev μ-loop : tie.MeasureT-loop
 μ-loop table h n found₀ passed₀ at₀ found passed at = length table - at
 

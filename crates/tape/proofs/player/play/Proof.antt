@@ -5,7 +5,7 @@ use mathlib.Core.Path.{_≡_, sym, ap, _∙_}
 use lib.ListN.{length, getD}
 use borrow.Author.Needs.{needs}
 use mathlib.Core.List.{List}
-use Rattle.lines.specs.Page.{Writes}
+use Rattle.lines.specs.Page.{WritesLine}
 use Rattle.lines.proofs.Room.{shown}
 use Rattle.events.specs.Event.{width}
 use Rattle.turns.specs.declared.Bench.{Bench}
@@ -19,7 +19,7 @@ use Rattle.tape.proofs.player.play.Tie as tie
 
 -- a line keeps the page's length
 kept : (tape page₀ : List ℕ) {line page later : List ℕ} {at n r : ℕ} {bench : Bench} → (length tape ≤ 4096) × (enough ≡ length page₀)
-    → Playing tape page at n bench → Writes line page n r later → length later ≡ length page₀
+    → Playing tape page at n bench → WritesLine line page n r later → length later ≡ length page₀
 kept tape page₀ pre p w = shown (one-more (pre .0) p) w .same ∙ sym (p .room) ∙ pre .1
 
 -- the invariant: the page holds the lines so far, and the rest is still to come

@@ -15,7 +15,7 @@ use Rattle.words.proofs.copy.put.Tie as tie
 abbrev Inv-loop : tie.InvT-loop
 Inv-loop src out₀ i₀ out i = (i ≤ length src) × (out ≡ take i src ++ drop i out₀) × (length out ≡ length out₀)
 
--- the words that are still to be copied
+-- the measure: the words that are still to be copied
 abbrev μ-loop : tie.MeasureT-loop
 μ-loop src out₀ i₀ out i = length src - i
 
