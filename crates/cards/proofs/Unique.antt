@@ -6,12 +6,12 @@ use Rattle.octets.proofs.Unique.{one, handed-one}
 use Rattle.cards.specs.Payload.{Next, HandsCard, HandsRest}
 use Rattle.cards.specs.declared.Card.{Card}
 
-pub next-unique : (o : List ℕ) (r s : Card) → Next o r → Next o s → r ≡ s
-next-unique o r s = one
+pub next-one : (o : List ℕ) (r s : Card) → Next o r → Next o s → r ≡ s
+next-one o r s = one
 
 module _ (o : List ℕ) {at : ℕ × ℕ} {p p′ : List ℕ} {q q′ : ℕ × ℕ} where
-  pub part-unique : HandsCard o at p q → HandsCard o at p′ q′ → (p ≡ p′) × (q ≡ q′)
-  part-unique = handed-one
+  pub hands-card-one : HandsCard o at p q → HandsCard o at p′ q′ → (p ≡ p′) × (q ≡ q′)
+  hands-card-one = handed-one
 
-  pub rest-unique : HandsRest o at p q → HandsRest o at p′ q′ → (p ≡ p′) × (q ≡ q′)
-  rest-unique = handed-one
+  pub hands-rest-one : HandsRest o at p q → HandsRest o at p′ q′ → (p ≡ p′) × (q ≡ q′)
+  hands-rest-one = handed-one

@@ -1,8 +1,6 @@
-// "Charge cards" (document 01) for C: a card as its answer and its value, its part and the rest as lengths, volts as a double.
+// "Charge cards" (document 01) for C: a card as its answer and its value, its part and the rest as lengths.
 use cards::Card;
-use volts::Calibration;
-use volts::Volts;
-ghost use Rattle.cards_c.specs.Charge.{NextTo, CardOctets, RestOctets, VoltsTo};
+ghost use Rattle.cards_c.specs.Charge.{NextTo, CardOctets, RestOctets};
 
 // What stands next, and its value where it has one.
 #[no_mangle]
@@ -43,23 +41,4 @@ pub extern "C" fn ahz_rest_octets(payload: &[u8]) -> usize
 {
     let rest = cards::rest(payload);
     rest.len()
-}
-
-// The volts of the next card under a calibration.
-#[no_mangle]
-pub extern "C" fn ahz_volts(payload: &[u8], gain: f64, offset: f64, volts: &mut f64) -> u8
-    ensures { λ r. ⌜ VoltsTo (now (payload .entry)) gain offset (now (volts .entry)) r (now (volts .exit)) ⌝ }
-{
-    match volts::read(payload, Calibration { gain, offset }) {
-        Volts::FromRawCode(v) => {
-            *volts = v;
-            104
-        }
-        Volts::FromMillivolts(v) => {
-            *volts = v;
-            105
-        }
-        Volts::NotAReading => 106,
-        Volts::Refused(no) => no,
-    }
 }

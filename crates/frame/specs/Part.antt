@@ -17,7 +17,7 @@ abbrev pub startBy : Reading → ℕ
 startBy (Frame h) = h .payload
 startBy (Refused n) = 0
 
--- the promise of `payload`: "The payload is handed back as a part of the lent frame, not copied". The frame and the part are each given
--- with where they lie
+-- the promise of `payload`: "The payload is handed back as a part of the lent frame, not copied"; `read` is the "call beside it" that
+-- "gives the verdict". The frame and the part are each given with where they lie
 abbrev pub HandsBack : List ℕ → ℕ × ℕ → List ℕ → ℕ × ℕ → Type 0
 HandsBack o at part place = HandedBack at (payloadBy (reading o) o) (startBy (reading o)) part place

@@ -1,16 +1,13 @@
--- From a promise of the rooms to the promise of its call for C: the answer as a number, and what is lent afterwards. Assumes nothing.
+-- From a promise of the room to the promise of its call for C: the answer as a number, and what is lent afterwards. Assumes nothing.
 use Prim.Native.Nat.{ℕ}
 use mathlib.Core.Path.{_≡_, refl, _∙_}
 use mathlib.Core.Bool.{Bool, cond}
 use mathlib.Core.List.{List}
 use Rattle.octets.specs.Copy.{Puts}
-use Rattle.octets.specs.Checks.{Verdict, good, refuse}
 use Rattle.frame.specs.declared.Header.{Header}
 use Rattle.frame.specs.declared.Reading.{Reading}
 use Rattle.frame.specs.declared.Reading.the-variants as reading
-use Rattle.tag.specs.declared.Written.{Written}
-use Rattle.tag.specs.Output.{Writes}
-use Rattle.frame_c.specs.Frames.{headerWords, Records, WritesTo, Tells}
+use Rattle.frame_c.specs.Frames.{headerWords, Records}
 
 -- a header put into a record, or no room for it
 pub room-told : {h : Header} {filled out later : List ℕ} {fitted : Bool} {r : ℕ} → Puts filled out fitted later → filled ≡ headerWords h
@@ -20,9 +17,3 @@ room-told p e f = record { answer = f ∙ rw (p .answer, e); words = p .buffer �
 -- a reading that is refused
 pub refusal-told : {rd : Reading} {out : List ℕ} {n : ℕ} → reading.Refused n ≡ rd → Records rd out n out
 refusal-told e = rw (← e) (record { answer = refl; words = refl })
-
--- what an insertion or a removal answered
-pub written-told : (v : Verdict) {result out : List ℕ} {before r after : ℕ} {w : Written} {later : List ℕ}
-    → Writes v result out w later → Tells w before r after → WritesTo v result out before r later after
-written-told good p t = record { answer = t .answer ∙ rw (p .answer); buffer = p .buffer; told = t .told ∙ rw (p .answer) }
-written-told (refuse k) p t = record { answer = t .answer ∙ rw (p .answer); buffer = p .buffer; told = t .told ∙ rw (p .answer) }

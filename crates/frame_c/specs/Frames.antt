@@ -1,4 +1,4 @@
--- Document 01, "Reading a frame", for C: what the calls answer and write, by the definitions of `frame` and `tag`. A record is lent words:
+-- Document 01, "Reading a frame", for C: what the calls answer and write, by the definitions of `frame`. A record is lent words:
 -- a header stands at its start, and later words stay, as the paper has it of an output's octets; a record that is shorter than the header
 -- is 8. Assumes nothing.
 use Prim.Native.Nat.{ℕ}
@@ -7,17 +7,11 @@ use mathlib.Core.Bool.{cond}
 use mathlib.Core.List.{List, [], _∷_}
 use lib.ListN.{length}
 use Rattle.octets.specs.Copy.{fits, putIn}
-use Rattle.octets.specs.Checks.{Verdict, good, refuse, verdict, refusal}
 use Rattle.frame.specs.declared.Header.{Header}
 use Rattle.frame.specs.declared.Reading.{Reading}
 use Rattle.frame.specs.declared.Reading.the-variants.{Frame, Refused}
 use Rattle.frame.specs.Reader.{reading}
 use Rattle.frame.specs.Part.{payloadBy}
-use Rattle.tag.specs.declared.Written.{Written}
-use Rattle.tag.specs.declared.Written.the-variants as written
-use Rattle.tag.specs.Output.{outputBy}
-use Rattle.tag.specs.Insertion.{inserted, insertChecks}
-use Rattle.tag.specs.Removal.{removed, removeChecks}
 
 -- a header in words: the addresses, whether there is a C-TAG and its VLAN id, whether there is an R-TAG and its number, the last type,
 -- and where the payload starts
@@ -55,37 +49,3 @@ ReadsTo o out r later = Records (reading o) out r later
 -- of `ahz_payload`: the length of the part that `payload` hands back, which is the frame's last octets
 abbrev pub PayloadOctets : List ℕ → ℕ → Type 0
 PayloadOctets o r = r ≡ length (payloadBy (reading o) o)
-
--- "Both answer the result's length": the lent length after a call that writes a result of n octets
-abbrev pub lengthBy : Verdict → ℕ → ℕ → ℕ
-lengthBy good n before = n
-lengthBy (refuse k) n before = before
-
--- a call that writes `result`, its length beside it
-pub record WritesTo (v : Verdict) (result out : List ℕ) (before r : ℕ) (later : List ℕ) (after : ℕ) : Type 0 where
-  pub answer : r ≡ refusal v
-  pub buffer : later ≡ outputBy v result out
-  pub told : after ≡ lengthBy v (length result) before
-
--- the room's answer as a number
-abbrev pub answerOf : Written → ℕ
-answerOf (written.Length n) = 0
-answerOf (written.Refused n) = n
-
--- with the length beside it; a refusal leaves that as it was
-abbrev pub lengthOf : Written → ℕ → ℕ
-lengthOf (written.Length n) before = n
-lengthOf (written.Refused k) before = before
-
--- what `tell` promises its callers
-pub record Tells (w : Written) (before r after : ℕ) : Type 0 where
-  pub answer : r ≡ answerOf w
-  pub told : after ≡ lengthOf w before
-
--- the promises: of `ahz_insert`
-abbrev pub InsertsTo : List ℕ → ℕ → List ℕ → ℕ → ℕ → List ℕ → ℕ → Type 0
-InsertsTo o n out before r later after = WritesTo (verdict (insertChecks o (length out))) (inserted o n) out before r later after
-
--- of `ahz_remove`
-abbrev pub RemovesTo : List ℕ → List ℕ → ℕ → ℕ → List ℕ → ℕ → Type 0
-RemovesTo o out before r later after = WritesTo (verdict (removeChecks o (length out))) (removed o) out before r later after

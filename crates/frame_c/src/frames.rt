@@ -1,9 +1,8 @@
-// "Reading a frame" (document 01) for C: the header as a record of words, a payload as its length, the R-TAG put in and taken off.
+// "Reading a frame" (document 01) for C: the header as a record of words, a payload as its length.
 use frame::Header;
 use frame::Reading;
-use tag::Written;
 ghost use Rattle.frame.specs.declared.Reading.the-variants.{Frame};
-ghost use Rattle.frame_c.specs.Frames.{Records, ReadsTo, PayloadOctets, InsertsTo, RemovesTo, Tells};
+ghost use Rattle.frame_c.specs.Frames.{Records, ReadsTo, PayloadOctets};
 
 // The header of a frame, in eight words.
 #[no_mangle]
@@ -39,34 +38,4 @@ pub extern "C" fn ahz_payload(frame: &[u8]) -> usize
 {
     let part = frame::payload(frame);
     part.len()
-}
-
-// The frame with an R-TAG, written to `out`, and its length.
-#[no_mangle]
-pub extern "C" fn ahz_insert(frame: &[u8], number: u16, out: &mut [u8], length: &mut usize) -> u8
-    ensures { λ r.
-        ⌜ InsertsTo (now (frame .entry)) number (now (out .entry)) (now (length .entry)) r (now (out .exit)) (now (length .exit)) ⌝ }
-{
-    tell(insertion::insert(frame, number, out), length)
-}
-
-// The frame without its R-TAG, written to `out`, and its length.
-#[no_mangle]
-pub extern "C" fn ahz_remove(frame: &[u8], out: &mut [u8], length: &mut usize) -> u8
-    ensures { λ r. ⌜ RemovesTo (now (frame .entry)) (now (out .entry)) (now (length .entry)) r (now (out .exit)) (now (length .exit)) ⌝ }
-{
-    tell(removal::remove(frame, out), length)
-}
-
-// The length of what was written, and 0; or the refusal.
-fn tell(written: Written, length: &mut usize) -> u8
-    ensures { λ r. ⌜ Tells written (now (length .entry)) r (now (length .exit)) ⌝ }
-{
-    match written {
-        Written::Length(n) => {
-            *length = n;
-            0
-        }
-        Written::Refused(number) => number,
-    }
 }

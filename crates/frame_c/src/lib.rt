@@ -1,2 +1,2 @@
-// The door of `frame`, `insertion` and `removal` for C. An answer is one number: 0 is done, and 1 to 99 is document 01's refusal.
+// The door of `frame` for C. What an answer means stands in `words`, where it is said for every door.
 pub mod frames;

@@ -9,7 +9,7 @@ use lib.Seq.{drop-cons, getD-append-add}
 use Prim.Native.String.{String}
 use Rattle.lines.specs.Lines.{octetsOf, decimal, labels, counted, countersText, longest}
 use Rattle.lines.specs.Words.{lineWords, words, wordAt, Appends, AppendsWithin}
-use Rattle.lines.proofs.Growth.{both, like, nothing}
+use Rattle.lines.proofs.Growth.{one-behind-other, like, nothing}
 
 -- what the labels and their numbers need at most
 abbrev pub most : List String → ℕ
@@ -63,7 +63,7 @@ module _
         record {
           few = omega arith;
           part = before .part ++ one;
-          appends = both (before .appends) written;
+          appends = one-behind-other (before .appends) written;
           room = rw next (omega (arith, before .room, x .short, ap most (first-of i p), ap length (label-word i)));
           texts = rw (next, append-assoc (before .part) one) (rw (← rest) (before .texts));
         }
@@ -76,6 +76,6 @@ ends {counters} {i = i} done all x =
     let eight : i ≡ 8 = omega (arith, done .few) in
     let whole : done .part ≡ counted labels counters = sym (append-nil (done .part)) ∙ rw eight at (done .texts) in
     record {
-      appends = like (ap (λ (l : List ℕ). l ++ octetsOf "\n") whole) (both (done .appends) x);
+      appends = like (ap (λ (l : List ℕ). l ++ octetsOf "\n") whole) (one-behind-other (done .appends) x);
       short = omega (arith, done .room, x .ends);
     }

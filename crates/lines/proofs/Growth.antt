@@ -45,8 +45,8 @@ pub appended : (part page : List ℕ) (at : ℕ) → at + length part ≤ length
 appended part page at room e = record { ends = refl; within = room; buffer = e }
 
 -- two parts, one behind the other, are both together
-pub both : {a b page p q : List ℕ} {at m r : ℕ} → Appends a page at m p → Appends b p m r q → Appends (a ++ b) page at r q
-both {a} {b} {page} {p} {q} {at} {m} {r} x y =
+pub one-behind-other : {a b page p q : List ℕ} {at m r : ℕ} → Appends a page at m p → Appends b p m r q → Appends (a ++ b) page at r q
+one-behind-other {a} {b} {page} {p} {q} {at} {m} {r} x y =
     let fits : at + length a ≤ length page = omega (arith, x .ends, x .within) in
     let long : length p ≡ length page = ap length (x .buffer) ∙ put-length a page at fits in
     let room : at + length a + length b ≤ length page = omega (arith, long, x .ends, y .ends, y .within) in

@@ -2,7 +2,7 @@
 use Prim.Native.Nat.{ℕ, _+_, _-_, _≤_}
 use native.Mathlib.Omega.{arith}
 use mathlib.Core.Path.{_≡_, sym, ap, _∙_}
-use mathlib.Core.Bool.{true, false}
+use mathlib.Core.Bool.{false}
 use mathlib.Core.List.{List, _++_}
 use lib.ListN.{length, take}
 use lib.Dec.{leb}
@@ -21,9 +21,10 @@ tested at long p =
     (λ over. over ∙ sym (lt-leb (at + longest) long (omega (arith, leb-false at (long - longest) over))))
 
 module _ (line page : List ℕ) (at : ℕ) where
-  pub with-room : {r : ℕ} {later : List ℕ} → hasRoom page at ≡ true → r ≤ at + longest → Appends line page at r later
+  pub with-room : {r : ℕ} {later : List ℕ} → at + longest ≤ length page → r ≤ at + longest → Appends line page at r later
       → WritesLine line page at r later
-  with-room room short x = record { answer = rw room (x .ends); buffer = rw room (x .buffer); short = short }
+  with-room room short x =
+      let has = le-leb (at + longest) (length page) room in record { answer = rw has (x .ends); buffer = rw has (x .buffer); short = short }
 
   pub without-room : hasRoom page at ≡ false → WritesLine line page at at page
   without-room none = record { answer = rw none; buffer = rw none; short = omega arith }

@@ -8,6 +8,7 @@ use lib.ListN.{length, take, drop, getD}
 use lib.Dec.{leb, eqb, lit≤, lit<}
 use Prim.Native.String.{String}
 use borrow.Author.Tests.{leb-true, eqb-true}
+use Rattle.octets.proofs.Bools.{both}
 use Rattle.lines.specs.declared.Line.{Line}
 use Rattle.lines.specs.declared.Line.the-variants.{Ok, Pass, Discard, Tick, Reset, LatentReset, LatentOk, LatentError}
 use Rattle.lines.specs.Lines.{octetsOf, text, labels}
@@ -41,16 +42,12 @@ unfolding same cuts words lineWords labels
 all-cut = refl
 
 -- and what it says of each word
-both : (x : Bool) {y : Bool} → x && y ≡ true → (x ≡ true) × (y ≡ true)
-both true e = (refl, e)
-both false e = let z : _≡_ {A = ℕ} 0 1 = cc in absurd (omega arith)
-
 same-is : (xs ys : List ℕ) → same xs ys ≡ true → xs ≡ ys
 unfolding same
 same-is [] [] e = refl
 same-is [] (y ∷ ys) e = let z : _≡_ {A = ℕ} 0 1 = cc in absurd (omega arith)
 same-is (x ∷ xs) [] e = let z : _≡_ {A = ℕ} 0 1 = cc in absurd (omega arith)
-same-is (x ∷ xs) (y ∷ ys) e = let is = both (eqb x y) e in rw (eqb-true x y (is .0), same-is xs ys (is .1))
+same-is (x ∷ xs) (y ∷ ys) e = let is = both (eqb x y) (same xs ys) e in rw (eqb-true x y (is .0), same-is xs ys (is .1))
 
 pub record Stands (es : List ℕ) (ws : List String) (i : ℕ) : Type 0 where
   pub ordered : getD es i 0 ≤ getD es (i + 1) 0
@@ -63,16 +60,16 @@ from [] ws cut i e p = absurd (omega arith)
 from (a ∷ es) [] cut i e p = absurd (omega arith)
 from (a ∷ []) (w ∷ ws) cut i e p = absurd (omega arith)
 from (a ∷ b ∷ es) (w ∷ ws) cut zero e p =
-    let parts = both (leb a b && leb b (length table)) cut in
-    let order = both (leb a b) (parts .0) in
+    let parts = both (leb a b && leb b (length table)) _ cut in
+    let order = both (leb a b) _ (parts .0) in
     record {
       ordered = leb-true a b (order .0);
       within = leb-true b _ (order .1);
-      texts = same-is _ _ (both (same (take (b - a) (drop a table)) (octetsOf w)) (parts .1) .0);
+      texts = same-is _ _ (both (same (take (b - a) (drop a table)) (octetsOf w)) _ (parts .1) .0);
     }
 from (a ∷ b ∷ es) (w ∷ ws) cut (suc i) e p =
-    let parts = both (leb a b && leb b (length table)) cut in
-    let rest = from (b ∷ es) ws (both (same (take (b - a) (drop a table)) (octetsOf w)) (parts .1) .1) i (omega arith) (omega arith) in
+    let parts = both (leb a b && leb b (length table)) _ cut in
+    let rest = from (b ∷ es) ws (both (same (take (b - a) (drop a table)) (octetsOf w)) _ (parts .1) .1) i (omega arith) (omega arith) in
     let next : suc i + 1 ≡ suc (i + 1) = omega arith in
     record { ordered = rw next (rest .ordered); within = rw next (rest .within); texts = rw next (rest .texts) }
 

@@ -1,5 +1,5 @@
 -- A history length that there can be is its own. Assumes nothing.
-use Prim.Native.Nat.{ℕ, _≤_, min, max}
+use Prim.Native.Nat.{ℕ, _≤_}
 use mathlib.Core.Path.{_≡_}
 use native.Mathlib.Omega.{arith}
 use Rattle.marks.specs.Window.{most, reach}

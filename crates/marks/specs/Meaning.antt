@@ -1,4 +1,5 @@
--- What a slide means, mark by mark, said without single moves: every definition of Window is held to it. Assumes nothing.
+-- What a slide means, mark by mark, said without single moves, and what the setting of a mark means: `slid`, `lostIn` and `set` of Window
+-- are held to it. Assumes nothing.
 use Prim.Native.Nat.{ℕ, zero, suc, _+_, _-_, _≤_, _<_}
 use mathlib.Core.Path.{_≡_}
 use mathlib.Core.Bool.{true, cond}

@@ -1,7 +1,8 @@
 // The marks of the vector rule's window (document 01, "Numbering and recovery"): "H marks (mark 0 is the newest)".
 //
-// Above this room marks are known by these calls and by `mark` of specs/Window alone, so that how they are kept can change. Any marks at
-// all may be handed in, with any mark asked for and any history length: each call has an answer.
+// Above this room marks are known by these calls, by `mark` of specs/Window and by the laws, so that how they are kept can change; only the
+// words of a state and computed examples look inside. Any marks at all may be handed in, with any mark asked for and any history length:
+// each call has an answer.
 mod window;
 
 pub use window::clear_from;

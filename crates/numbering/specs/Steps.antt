@@ -1,4 +1,5 @@
--- The generator (document 01, "Numbering and recovery"). Assumes nothing.
+-- The generator (document 01, "Numbering and recovery"): "Generator and recovery state are values: each step takes the state and hands the
+-- next one back". Assumes nothing.
 use Prim.Native.Nat.{_+_, _%_}
 use mathlib.Core.Path.{_≡_}
 use Rattle.numbering.specs.declared.Generator.{Generator}

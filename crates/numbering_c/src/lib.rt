@@ -1,2 +1,2 @@
-// The door of `numbering` for C. A generator is its number, lent as such. What an answer means at every door stands in `words`.
+// The door of `numbering` for C. A generator is its number, lent as such, and no call refuses.
 pub mod generators;

@@ -9,6 +9,7 @@ use lib.Seq.{take-length, take-all, drop-drop, take-append-seam, drop-append-add
 use borrow.Author.Tests.{le-leb, lt-leb}
 use borrow.Rule.Slice.PartMut.{putMid, midOf}
 use Rattle.octets.specs.Copy.{putIn, Puts}
+use Rattle.octets.specs.Part.{HandedBack}
 
 module _ (src out : List ℕ) where
   pub with-room : length src ≤ length out → {later : List ℕ} → later ≡ take (length src) src ++ drop (length src) out
@@ -37,6 +38,11 @@ starts-at at start = ap (λ (n : ℕ). (at .0, n)) (omega arith)
 
 pub starts-first : (at : ℕ × ℕ) → _≡_ {A = ℕ × ℕ} at (at .0, at .1 + 0)
 starts-first at = ap (λ (n : ℕ). (at .0, n)) (omega arith)
+
+-- how long a part is that is handed back
+pub part-length : {at : ℕ × ℕ} {octets : List ℕ} {start : ℕ} {part : List ℕ} {place : ℕ × ℕ} → HandedBack at octets start part place
+    → length part ≡ length octets
+part-length p = ap (λ (l : List ℕ). length l) (p .holds)
 
 -- a source that fits, put at the start
 pub put-first : {src out : List ℕ} → length src ≤ length out → {r : Bool} {later : List ℕ} → Puts src out r later → later ≡ putIn src out

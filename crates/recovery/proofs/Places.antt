@@ -1,6 +1,7 @@
--- The statement about places (document 01, demand 3), shown of the calls: `places`, below. It stands on the definitions of `specs/Places`
--- of the room `rules`, which packets pass and what is counted, and of `specs/Spans.antt`, what a span is and what is said of it. That
--- single packets obey the places is shown in `rules` (proofs/Places); here it is carried over a whole span of calls. Assumes nothing.
+-- The statement about places (demand 3, quoted in `specs/Places` of `rules`), shown of the calls: `places`, below. It stands on the
+-- definitions of `specs/Places` of the room `rules`, which packets pass and what is counted, and of `specs/Spans.antt`, what a span is and
+-- what is said of it. That single packets obey the places is shown in `rules` (proofs/Places); here it is carried over a whole span of
+-- calls. Assumes nothing.
 use mathlib.Core.Path.{_≡_}
 use mathlib.Core.Bool.{true}
 use mathlib.Core.List.{List, _∷_}

@@ -26,14 +26,14 @@ rebased s =
       base = figure (s .counters) (s .setup .paths);
     }
 
--- the call `latent_reset`: a state that is not sound answers 14 and comes back as it was
+-- the call `latent_reset`: "state not sound" is 14, and then "state and buffers keep their values"
 unfoldable pub latentResetOf : State → Changed
 latentResetOf s =
     cond (sound s)
     (record { change = change.Done; state = rebased s })
     (record { change = change.Refused 14; state = s })
 
--- the call `latent_test`: "no state changes"
+-- the call `latent_test`: "state not sound" is 14; "no state changes"
 unfoldable pub latentTestOf : State → Latent
 latentTestOf s = cond (sound s) (cond (latentError s) latent.Error latent.Agrees) (latent.Refused 14)
 

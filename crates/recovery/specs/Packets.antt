@@ -40,7 +40,7 @@ unfoldable pub heard : State → Packet → Heard
 heard s (Numbered number) = settled s false 0 (numbered s number)
 heard s Tagless = settled s (s .«take_any») 1 (unnumbered (s .setup .taken) (s .newest) (s .marks))
 
--- the call `packet`: a state that is not sound answers 14 and comes back as it was
+-- the call `packet`: "state not sound" is 14, and then "state and buffers keep their values"
 unfoldable pub packetOf : State → Packet → Heard
 packetOf s packet = cond (sound s) (heard s packet) (record { verdict = Refused 14; state = s })
 

@@ -40,7 +40,7 @@ begunFrom setup = cond (eqb (checked setup) 0) (begun.Ready (freshState setup)) 
 unfoldable pub resetState : State → State
 resetState s = cleared (s .setup) (resetCounted (s .counters)) (s .base)
 
--- the call `reset`: a state that is not sound answers 14 and comes back as it was
+-- the call `reset`: "state not sound" is 14, and then "state and buffers keep their values"
 unfoldable pub resetOf : State → Changed
 resetOf s =
     cond (sound s)

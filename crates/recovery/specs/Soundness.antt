@@ -1,5 +1,4 @@
 -- Which states are sound (document 01, "Numbering and recovery"). Assumes nothing.
-use Prim.Native.Nat.{ℕ}
 use mathlib.Core.Bool.{Bool, cond, not, _&&_, _||_}
 use lib.Dec.{leb, eqb}
 use Rattle.setup.specs.Range.{checked, isVector, fullOf}
@@ -14,7 +13,7 @@ awaits s =
     (leb 1 (s .left .0) && (not (isVector (s .setup)) || eqb (mark 0 (s .marks)) 1))
 
 -- "Sound state: setup in range; marks at H and above clear"; what take-any means; "match has no mark; ticks left never above full ticks".
--- "All else answers 14"
+-- "All else answers 14", a setup out of range with it: "inside a state a bad one is 14"
 unfoldable pub sound : State → Bool
 sound s =
     eqb (checked (s .setup)) 0

@@ -38,7 +38,7 @@ timed s =
     (record { ticked = ticked.Reset; state = resetState (withLeft 0 s) })
     (record { ticked = ticked.Tick; state = withLeft (s .left .0 - 1) s }))
 
--- the call `tick`: a state that is not sound answers 14 and comes back as it was
+-- the call `tick`: "state not sound" is 14, and then "state and buffers keep their values"
 unfoldable pub tickOf : State → Timed
 tickOf s = cond (sound s) (timed s) (record { ticked = ticked.Refused 14; state = s })
 

@@ -1,6 +1,6 @@
 // Recovery of one stream (document 01, "Numbering and recovery"): the recovery state with both rules, its timer and counters, and the
 // latent error test. "each step takes the state and hands the next one back": a state goes in by `self` and the next one comes back. Each
-// call takes any value at all and answers or refuses by the paper's number; a refusal hands the state back as it was.
+// call takes any value at all and answers or refuses by the paper's number; a refused step hands the state back as it was.
 mod latent_errors;
 mod packets;
 mod resets;

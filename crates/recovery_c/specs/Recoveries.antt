@@ -1,5 +1,5 @@
--- What the calls on a state answer and write: the number of an answer of `calls`, and the words of `states` that hold the next state.
--- Assumes nothing.
+-- Document 01, "Numbering and recovery", for C: what the calls on a state answer and write. That is the number of an answer of `calls`, and
+-- the words of `states` that hold the next state. Assumes nothing.
 use Prim.Native.Nat.{ℕ}
 use mathlib.Core.Path.{_≡_}
 use mathlib.Core.Bool.{cond}
@@ -17,7 +17,7 @@ use Rattle.answers.specs.Numbers.{numberOf}
 use Rattle.states.specs.Fields.{held, stateOf, wordsOf}
 
 -- the promise of every step, `ahz_numbered`, `ahz_tagless`, `ahz_tick`, `ahz_reset` and `ahz_latent_reset`: of the state that the words
--- hold, the answer, and the next state's words; words that hold no state are 14 and stay
+-- hold, the answer, and the next state's words; words that hold no state are 14, as is a "state not sound", and stay
 pub record StepsTo (call : Call) (w : List ℕ) (r : ℕ) (later : List ℕ) : Type 0 where
   pub answer : r ≡ cond (held w) (numberOf (answered (stateOf w) call .answer)) 14
   pub words : later ≡ cond (held w) (wordsOf (answered (stateOf w) call .state)) w
@@ -26,7 +26,8 @@ pub record StepsTo (call : Call) (w : List ℕ) (r : ℕ) (later : List ℕ) : T
 abbrev pub TestsTo : List ℕ → ℕ → Type 0
 TestsTo w r = r ≡ cond (held w) (numberOf (answered (stateOf w) LatentTest .answer)) 14
 
--- what is answered of a fresh state: the setup's refusal, then 14 unless the words are twenty
+-- what is answered of a fresh state: "A setup is checked 15, 27, 16 to 19 wherever it is handed in by itself"; then 14 unless the words are
+-- twenty
 abbrev pub beginAnswer : Begun → List ℕ → ℕ
 beginAnswer (begun.Ready s) w = cond (eqb (length w) 20) 0 14
 beginAnswer (begun.Refused n) w = n

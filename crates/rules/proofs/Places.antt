@@ -1,5 +1,5 @@
--- The places that the rules let pass (document 01, demand 3), of single packets: the definitions are those of `specs/Places.antt`, and the
--- room above says the same of a whole span of calls. To be read in this order. Assumes nothing.
+-- The places that the rules let pass (demand 3, quoted in `specs/Places`), of single packets: the definitions are those of
+-- `specs/Places.antt`, and the room above says the same of a whole span of calls. To be read in this order. Assumes nothing.
 
 -- which places are among the passed ones, and which lie near
 pub mod Among

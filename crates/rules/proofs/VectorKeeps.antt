@@ -11,7 +11,6 @@ use Rattle.marks.specs.Window.{most, mark, clearFrom, set, slid}
 use Rattle.marks.proofs.Meaning.{sets-mean, slides-mean}
 use Rattle.rules.specs.declared.Effect.{Effect}
 use Rattle.rules.specs.Difference.{Difference, ahead, behind, difference}
-use Rattle.rules.specs.Effects.{accepted, discarded}
 use Rattle.rules.specs.Vector.{late, onward, byDifference, vector}
 
 abbrev pub Kept : ℕ → Marks → Type 0

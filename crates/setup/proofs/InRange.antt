@@ -1,14 +1,15 @@
 -- What a setup in range says, value by value, and one check of the list after the other. Assumes nothing.
-use Prim.Native.Nat.{ℕ, suc, _≤_}
+use Prim.Native.Nat.{ℕ, _≤_}
 use mathlib.Core.Path.{_≡_, refl}
 use mathlib.Core.Bool.{Bool, true, false, cond, not}
 use mathlib.Core.List.{List, _∷_}
 use lib.Dec.{leb}
-use borrow.Author.Tests.{leb-true}
+use borrow.Author.Tests.{leb-true, not-false}
 use native.Mathlib.Nat.{mul-le-mul}
 use native.Mathlib.Omega.{arith}
 use Rattle.octets.specs.Checks.{Check, _⇒_, verdict, refusal}
 use Rattle.octets.proofs.Bools.{both}
+use Rattle.octets.proofs.Order.{passed-by}
 use Rattle.setup.specs.declared.Setup.{Setup}
 use Rattle.setup.specs.Conversion.{fullTicks, ticksOf}
 use Rattle.setup.specs.Range.{within, setupChecks, checked, fullOf}
@@ -19,13 +20,6 @@ pub first-check : (holds : Bool) (number : ℕ) (later : List Check)
 unfolding verdict
 first-check true number later = refl
 first-check false number later = refl
-
--- a check that did not refuse held, and so did those after it
-passed-on : (holds : Bool) (number : ℕ) (later : List Check) → refusal (verdict (not holds ⇒ suc number ∷ later)) ≡ 0
-    → (holds ≡ true) × (refusal (verdict later) ≡ 0)
-unfolding verdict
-passed-on true number later e = (refl, e)
-passed-on false number later e = absurd (omega arith)
 
 within-is : (lo hi n : ℕ) → within lo hi n ≡ true → (lo ≤ n) × (n ≤ hi)
 within-is lo hi n e =
@@ -43,19 +37,19 @@ pub record InRange (setup : Setup) : Type 0 where
 pub in-range : (setup : Setup) → checked setup ≡ 0 → InRange setup
 unfolding checked setupChecks
 in-range setup e =
-    let rule = passed-on (leb (setup .rule) 1) 14 _ e in
-    let taken = passed-on (leb (setup .taken) 1) 26 _ (rule .1) in
-    let history = passed-on (within 2 64 (setup .history)) 15 _ (taken .1) in
-    let timeout = passed-on (within 1 3600000 (setup .timeout .0)) 16 _ (history .1) in
-    let rate = passed-on (within 1 10000 (setup .rate)) 17 _ (timeout .1) in
-    let paths = passed-on (within 2 8 (setup .paths)) 18 _ (rate .1) in
+    let rule = passed-by (not (leb (setup .rule) 1)) 14 _ e in
+    let taken = passed-by (not (leb (setup .taken) 1)) 26 _ (rule .2) in
+    let history = passed-by (not (within 2 64 (setup .history))) 15 _ (taken .2) in
+    let timeout = passed-by (not (within 1 3600000 (setup .timeout .0))) 16 _ (history .2) in
+    let rate = passed-by (not (within 1 10000 (setup .rate))) 17 _ (timeout .2) in
+    let paths = passed-by (not (within 2 8 (setup .paths))) 18 _ (rate .2) in
     record {
-      rule = leb-true _ _ (rule .0);
-      taken = leb-true _ _ (taken .0);
-      history = within-is _ _ _ (history .0);
-      timeout = within-is _ _ _ (timeout .0);
-      rate = within-is _ _ _ (rate .0);
-      paths = within-is _ _ _ (paths .0);
+      rule = leb-true _ _ (not-false _ (rule .0));
+      taken = leb-true _ _ (not-false _ (taken .0));
+      history = within-is _ _ _ (not-false _ (history .0));
+      timeout = within-is _ _ _ (not-false _ (timeout .0));
+      rate = within-is _ _ _ (not-false _ (rate .0));
+      paths = within-is _ _ _ (not-false _ (paths .0));
     }
 
 -- full ticks are 1 or more

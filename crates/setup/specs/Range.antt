@@ -15,7 +15,7 @@ within lo hi n = leb lo n && leb n hi
 
 -- "A setup is checked 15, 27, 16 to 19": "rule (0 vector, 1 match), whether packets without a number are taken, history length H 2 to 64,
 -- timeout 1 to 3,600,000 ms, ticks per second 1 to 10,000, paths 2 to 8, latent difference 0 to 2^32-1". "H is checked under match too";
--- every difference of 32 bits is in range
+-- every difference of 32 bits is in range. In the table: "rule; H; ms; ticks per second; paths" and "taken flag not 0 or 1"
 unfoldable pub setupChecks : Setup → List Check
 setupChecks setup =
     not (leb (setup .rule) 1) ⇒ 15

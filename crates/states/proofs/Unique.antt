@@ -9,8 +9,8 @@ use Rattle.states.specs.declared.Held.{Held}
 use Rattle.states.specs.Fields.{ReadsState, Keeps}
 
 module _ (w : List ℕ) where
-  pub reads-one : {a b : Held} → ReadsState w a → ReadsState w b → a ≡ b
-  reads-one = one
+  pub reads-state-one : {a b : Held} → ReadsState w a → ReadsState w b → a ≡ b
+  reads-state-one = one
 
   pub keeps-one : (s : State) {a b : Bool} {l m : List ℕ} → Keeps s w a l → Keeps s w b m → (a ≡ b) × (l ≡ m)
   keeps-one s p q = (one (p .answer) (q .answer), one (p .words) (q .words))

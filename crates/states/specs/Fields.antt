@@ -7,6 +7,8 @@ use mathlib.Core.List.{List, [], _∷_}
 use lib.ListN.{length, getD}
 use lib.Dec.{ltb, eqb}
 use Rattle.setup.specs.declared.Setup.{Setup}
+use Rattle.setup.specs.Values.{setupOf}
+use Rattle.marks.specs.Window.{number, marksOf}
 use Rattle.counters.specs.declared.Counters.{Counters}
 use Rattle.recovery.specs.declared.State.{State}
 use Rattle.states.specs.declared.Held.{Held}
@@ -23,7 +25,7 @@ wordsOf s =
     ∷ s .setup .paths
     ∷ s .setup .difference
     ∷ s .newest
-    ∷ s .marks .0
+    ∷ number (s .marks)
     ∷ cond (s .«take_any») 1 0
     ∷ s .left .0
     ∷ s .counters .passed
@@ -73,16 +75,7 @@ pub record Holds (w : List ℕ) : Type 0 where
 
 -- the setup of such words
 abbrev pub setupIn : List ℕ → Setup
-setupIn w =
-    record {
-      rule = word 0 w;
-      taken = word 1 w;
-      history = word 2 w;
-      timeout = record { 0 = word 3 w };
-      rate = word 4 w;
-      paths = word 5 w;
-      difference = word 6 w;
-    }
+setupIn w = setupOf (word 0 w) (word 1 w) (word 2 w) (word 3 w) (word 4 w) (word 5 w) (word 6 w)
 
 -- their counters
 abbrev pub countersIn : List ℕ → Counters
@@ -104,7 +97,7 @@ stateOf w =
     record {
       setup = setupIn w;
       newest = word 7 w;
-      marks = record { 0 = word 8 w };
+      marks = marksOf (word 8 w);
       «take_any» = eqb (word 9 w) 1;
       left = record { 0 = word 10 w };
       counters = countersIn w;

@@ -7,8 +7,8 @@ use Rattle.streams.specs.declared.Checked.{Checked}
 use Rattle.streams.specs.declared.Found.{Found}
 use Rattle.streams.specs.Table.{ChecksTable, LooksUp}
 
-pub checks-one : (t : List ℕ) {r r′ : Checked} → ChecksTable t r → ChecksTable t r′ → r ≡ r′
-checks-one t = one
+pub checks-table-one : (t : List ℕ) {r r′ : Checked} → ChecksTable t r → ChecksTable t r′ → r ≡ r′
+checks-table-one t = one
 
 pub looks-up-one : (t o : List ℕ) {r r′ : Found} → LooksUp t o r → LooksUp t o r′ → r ≡ r′
 looks-up-one t o = one

@@ -28,7 +28,7 @@ entriesAfter zero (kind ∷ t) = (kind ∷ take (bodyLength kind) t) ∷ entries
 unfoldable pub entries : List ℕ → List (List ℕ)
 entries t = entriesAfter 0 t
 
--- "each entry: 13, 10, 11, 12": "257th entry"; "entry kind"; "cut"; "choice or VLAN out of range"
+-- "each entry: 13, 10, 11, 12": "257th entry", of "At most 256 entries"; "entry kind"; "cut"; "choice or VLAN out of range"
 unfoldable pub entryChecks : (before : ℕ) → List ℕ → List Check
 entryChecks before e =
     leb 256 before ⇒ 13

@@ -1,3 +1,3 @@
-// The door of `streams` for C. An answer is one number: 0 is done, 1 to 99 is document 01's refusal, and from 100 on it names an answer of
-// the call (`ofFound` of specs/Tables).
+// The door of `streams` for C. What an answer means stands in `words`, where it is said for every door; from 100 on the names are those of
+// `ofFound` (specs/Tables).
 pub mod tables;

@@ -48,7 +48,7 @@ linesFrom (suc n) tape at bench =
 unfoldable pub played : List ℕ → List ℕ
 played tape = linesFrom (length tape + 1) tape 0 Waits
 
--- "A program reads a tape of at most 4,096 octets": "26 is checked before all else on a tape"
+-- "A program reads a tape of at most 4,096 octets": "tape over 4,096"; "26 is checked before all else on a tape"
 unfoldable pub tapeChecks : List ℕ → List Check
 tapeChecks tape = ltb 4096 (length tape) ⇒ 26 ∷ []
 

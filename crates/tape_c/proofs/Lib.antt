@@ -1,2 +1,2 @@
-pub mod TapeTold
+pub mod Told
 pub mod Unique

@@ -1,4 +1,4 @@
--- What the call on a bench tape answers and writes, by the tape room's own definitions. Assumes nothing.
+-- Document 01, "The bench tape", for C: what the call answers and writes, by the definitions of `tape`. Assumes nothing.
 use Prim.Native.Nat.{ℕ}
 use mathlib.Core.Path.{_≡_}
 use mathlib.Core.Bool.{cond}

@@ -1,3 +1,2 @@
-// The door to `tape` for C and Rust. The answer is 0 where it is done, and else document 01's refusal; a refusal leaves all that was lent
-// as it was.
+// The door of `tape` for C. What an answer means stands in `words`, where it is said for every door.
 pub mod tapes;

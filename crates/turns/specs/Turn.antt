@@ -103,7 +103,7 @@ abbrev pub decided : Verdict → Outcome → Outcome
 decided good outcome = outcome
 decided (refuse number) outcome = Fault number
 
--- the event at a place: its checks, and then the event in its turn
+-- "Per event: 23, 24, 25, then 15, 27, 16 to 19": its checks, and then the event in its turn, which checks a setup
 unfoldable pub eventAt : List ℕ → ℕ → Bench → Outcome
 eventAt tape at bench = decided (verdict (checks tape at (isSetUp bench))) (inTurn tape at bench)
 

@@ -1,6 +1,6 @@
 -- A reading is judged by the calibration, and then as its card is. Assumes nothing.
 use Prim.Native.Nat.{ℕ}
-use mathlib.Core.Path.{_≡_, refl, ap, _∙_}
+use mathlib.Core.Path.{_≡_, refl, _∙_}
 use mathlib.Core.Bool.{true, false}
 use mathlib.Core.List.{List}
 use Rattle.octets.specs.Checks.{Verdict, good, refuse, verdict}

@@ -8,5 +8,5 @@ use Rattle.volts.specs.Reading.{ReadsVolts}
 use Rattle.volts.specs.declared.Calibration.{Calibration}
 use Rattle.volts.specs.declared.Volts.{Volts}
 
-pub read-unique : (o : List ℕ) (c : Calibration) (r s : Volts) → ReadsVolts o c r → ReadsVolts o c s → r ≡ s
-read-unique o c r s = one
+pub reads-volts-one : (o : List ℕ) (c : Calibration) (r s : Volts) → ReadsVolts o c r → ReadsVolts o c s → r ≡ s
+reads-volts-one o c r s = one

@@ -39,7 +39,7 @@ voltsOf (card.Millivolts n) c = volts.FromMillivolts (voltsOfMillivolts n)
 voltsOf card.End c = volts.NotAReading
 voltsOf (card.Refused n) c = volts.Refused n
 
--- "Order: 22 where a calibration is given, then 20, then 21"
+-- "Order: 22 where a calibration is given, then 20, then 21": "calibration"; "card kind; card cut"
 abbrev pub readingChecks : List ℕ → Calibration → List Check
 readingChecks o c = not (accepted c) ⇒ 22 ∷ cardChecks o
 

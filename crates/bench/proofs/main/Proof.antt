@@ -27,8 +27,12 @@ enum-told : tie.Need-enum-told
 enum-told c = search needs
 
 -- the length that is answered lies within the page
-page-within : (c : tie.After-known-told) → c .before .length .given .0 .0 ≤ length (c .before .before .before .before .run .last .1 .0)
-page-within c = within _ _ (rw (c .before .length .given .1) at (c .before .before .before .before .run .ensures))
+page-within : (c : tie.After-known-told)
+    → let at-run = c .before .before .before .before in c .before .length .given .0 .0 ≤ length (at-run .run .last .1 .0)
+page-within c =
+    let at-length = c .before in
+    let at-run = at-length .before .before .before in
+    within _ _ (rw (at-length .length .given .1) at (at-run .run .ensures))
 
 array-share-prefix-page : tie.Need-array-share-prefix-page
 array-share-prefix-page c = page-within c

@@ -4,26 +4,21 @@ use mathlib.Core.Path.{_≡_, refl, sym}
 use mathlib.Core.Bool.{Bool, true, false, cond}
 use Rattle.octets.proofs.Bools.{either}
 use Rattle.marks.specs.declared.Marks.{Marks}
-use Rattle.marks.specs.Window.{most, none, set}
+use Rattle.marks.specs.Window.{most}
 use mathlib.Core.List.{List, [], _∷_}
 use Prim.Native.Nat.{ℕ, _+_, _≤_, _<_}
-use native.Mathlib.Nat.{sub-zero}
 use native.Mathlib.Omega.{arith}
 use lib.Dec.{eqb}
 use lib.ListN.{length}
 use Rattle.recovery.specs.declared.State.{State}
 use Rattle.rules.specs.declared.Effect.{Effect}
-use Rattle.rules.specs.Effects.{accepted, discarded}
 use Rattle.setup.specs.Range.{isVector}
 use Rattle.rules.specs.NoNumber.{unnumbered}
-use Rattle.rules.specs.TakeAny.{firstMarks, first}
 use Rattle.recovery.specs.Packets.{numbered}
-use Rattle.rules.specs.Places.{among, firstPlace, place, passes, after}
+use Rattle.rules.specs.Places.{firstPlace, passes, after}
 use Rattle.recovery.proofs.RuleLaws.{by-take-any, by-vector}
-use Rattle.rules.proofs.Places.Sum.{kept-first, newest-alone}
-use Rattle.rules.proofs.Places.Shown.{Shown, shown-none, shown-set}
 use Rattle.rules.proofs.Places.First.{first-obeys}
-use Rattle.rules.proofs.Places.Step.{Follows, Obeys, vector-obeys, lost-none, lost-first}
+use Rattle.rules.proofs.Places.Step.{Follows, Obeys, vector-obeys}
 
 -- before the first numbered packet any is taken; after it the newest number and the marks follow the places
 abbrev pub Stands : ℕ → List ℕ → Bool → ℕ → Marks → Type 0

@@ -12,13 +12,11 @@ use Rattle.counters.specs.Counting.{noCounts}
 use Rattle.recovery.specs.declared.State.{State}
 use Rattle.octets.proofs.Bools.{either}
 use Rattle.recovery.specs.declared.Begun.{Begun}
-use Rattle.recovery.specs.declared.Begun.the-variants.{Ready, Refused}
+use Rattle.recovery.specs.declared.Begun.the-variants.{Ready}
 use Rattle.recovery.specs.declared.Timed.{Timed}
-use Rattle.recovery.specs.declared.Ticked.the-variants as ticked
-use ticked.{Tick, Reset}
+use Rattle.recovery.specs.declared.Ticked.the-variants.{Tick, Reset}
 use Rattle.recovery.specs.declared.Changed.{Changed}
-use Rattle.recovery.specs.declared.Change.the-variants as change
-use change.{Done}
+use Rattle.recovery.specs.declared.Change.the-variants.{Done}
 use Rattle.setup.specs.Range.{checked}
 use Rattle.recovery.specs.Resets.{cleared, freshState, resetState, begunFrom, resetOf, Begins, Resets}
 use Rattle.recovery.specs.Soundness.{sound}

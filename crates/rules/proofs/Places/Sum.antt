@@ -1,4 +1,5 @@
--- The closing sum (document 01, demand 3): what every list of passed places keeps, and that the sum closes for it. Assumes nothing.
+-- The closing sum (demand 3, quoted in `specs/Places`): what every list of passed places keeps, and that the sum closes for it. Assumes
+-- nothing.
 use mathlib.Core.Path.{_≡_, refl}
 use mathlib.Core.Bool.{false}
 use mathlib.Core.List.{List, [], _∷_}

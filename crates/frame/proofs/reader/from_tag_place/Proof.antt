@@ -12,21 +12,6 @@ use Rattle.frame.proofs.reader.from_tag_place.Tie as tie
 abbrev start : tie.After-word482 → tie.Start
 start c = let at-first = c .before .before in at-first .before .before
 
-place-below : (c : tie.After-word482) → start c .args .at ≤ 16
-place-below c = place-bounds (start c .pre) .1
-
-add-if2 : tie.Need-add-if2
-add-if2 c = omega (arith, place-below c)
-
-add-if2-2 : tie.Need-add-if2-2
-add-if2-2 c = omega (arith, place-below (c .before))
-
-add-word16 : tie.Need-add-word16
-add-word16 c = search needs
-
-add-word16-2 : tie.Need-add-word16-2
-add-word16-2 c = search needs
-
 -- no R-TAG
 returns : tie.Need-returns
 unfolding headerAt destination source
@@ -78,6 +63,22 @@ returns-5 c =
     (omega arith)
     (λ e. no-ctag .if3 .left (omega arith))
     (λ e. no-rtag .if4 .left (omega arith)))
+
+-- the places that are read
+place-below : (c : tie.After-word482) → start c .args .at ≤ 16
+place-below c = place-bounds (start c .pre) .1
+
+add-if2 : tie.Need-add-if2
+add-if2 c = omega (arith, place-below c)
+
+add-if2-2 : tie.Need-add-if2-2
+add-if2-2 c = omega (arith, place-below (c .before))
+
+add-word16 : tie.Need-add-word16
+add-word16 c = search needs
+
+add-word16-2 : tie.Need-add-word16-2
+add-word16-2 c = search needs
 
 pub from-tag-place-spec : {M : Type 1} → statement M
 from-tag-place-spec =

@@ -5,7 +5,7 @@ use mathlib.Core.Path.{_≡_, sym, ap, _∙_}
 use lib.ListN.{length, take}
 use mathlib.Core.List.{List, _++_}
 use Rattle.lines.specs.Words.{wordAt}
-use Rattle.lines.proofs.Growth.{both, like, same-length}
+use Rattle.lines.proofs.Growth.{one-behind-other, like, same-length}
 use Rattle.lines.proofs.Decimal.{digits-decimal, twenty}
 use borrow.Author.Needs.{needs}
 use Rattle.lines.proofs.page.count.Statement.{statement}
@@ -48,7 +48,7 @@ returns c =
     let is = shown .1 ∙ digits-decimal 20 (at-digits .decimal .result) (start .args .n) (few at-digits .0) (shown .0) in
     let digits = c .before .before .append .ensures in
     record {
-      appends = like (ap (λ (t : List ℕ). wordAt (start .args .i) ++ t) is) (both word digits);
+      appends = like (ap (λ (t : List ℕ). wordAt (start .args .i) ++ t) is) (one-behind-other word digits);
       short = omega (arith, few at-digits, word .ends, digits .ends);
     }
 

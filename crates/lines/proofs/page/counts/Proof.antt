@@ -2,13 +2,11 @@
 use Prim.Native.Nat.{_+_, _-_, _≤_}
 use native.Mathlib.Omega.{arith}
 use mathlib.Core.Path.{_≡_, sym, _∙_}
-use mathlib.Core.Bool.{true}
 use lib.ListN.{length}
 use lib.Dec.{lit<}
 use borrow.Author.Tests.{leb-true}
 use Rattle.lines.specs.Lines.{longest}
 use Rattle.lines.specs.Words.{lineWords, words}
-use Rattle.lines.specs.Page.{hasRoom}
 use Rattle.lines.proofs.Growth.{same-length}
 use Rattle.lines.proofs.Room.{with-room, without-room}
 use Rattle.lines.proofs.Counting.{Counting, begins, next-room, goes-on, ends}
@@ -32,11 +30,8 @@ eight : (c : tie.Then1 Inv-loop μ-loop) → length (start c .args .t1) ≡ 8
 eight c = omega (arith, start c .good .0)
 
 -- what the test says
-roomy : (c : tie.Then1 Inv-loop μ-loop) → hasRoom (start c .args .page .now) (start c .args .at) ≡ true
-roomy c = sym (c .before .has-room .ensures) ∙ c .if1 .taken
-
 room : (c : tie.Then1 Inv-loop μ-loop) → start c .args .at + longest ≤ length (start c .args .page .now)
-room c = leb-true (start c .args .at + longest) (length (start c .args .page .now)) (roomy c)
+room c = let a = start c .args in leb-true (a .at + longest) (length (a .page .now)) (sym (c .before .has-room .ensures) ∙ c .if1 .taken)
 
 has-room-requires : tie.Need-has-room-requires Inv-loop μ-loop
 has-room-requires c κs = search needs
@@ -87,7 +82,7 @@ returns c =
     let at-newline = c .before .before in
     let at-loop = at-newline .before .before .before in
     let counted = ends (at-loop .loop .inv) (omega arith) (at-newline .word .ensures) in
-    with-room _ _ _ (roomy (at-loop .before)) (counted .short) (counted .appends)
+    with-room _ _ _ (room (at-loop .before)) (counted .short) (counted .appends)
 
 -- without room
 returns-2 : tie.Need-returns-2 Inv-loop μ-loop

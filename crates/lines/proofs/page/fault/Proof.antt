@@ -1,15 +1,13 @@
 -- `lines::page::fault` meets its promise: the word, the number and the newline, one behind the other. Assumes nothing.
 use Prim.Native.Nat.{_+_, _≤_}
 use native.Mathlib.Omega.{arith}
-use mathlib.Core.Path.{_≡_, sym, _∙_}
-use mathlib.Core.Bool.{true}
+use mathlib.Core.Path.{sym, _∙_}
 use lib.ListN.{length}
 use lib.Dec.{lit<}
 use borrow.Author.Tests.{leb-true}
 use Rattle.lines.specs.Lines.{faultText, longest}
 use Rattle.lines.specs.Words.{lineWords, words}
-use Rattle.lines.proofs.Growth.{both, same-length}
-use Rattle.lines.specs.Page.{hasRoom}
+use Rattle.lines.proofs.Growth.{one-behind-other, same-length}
 use Rattle.lines.proofs.Room.{with-room, without-room}
 use borrow.Author.Needs.{needs}
 use Rattle.lines.proofs.page.fault.Statement.{statement}
@@ -19,11 +17,10 @@ has-room-requires : tie.Need-has-room-requires
 has-room-requires c κs = search needs
 
 -- what the test says
-roomy : (c : tie.Then1) → let a = c .before .before .before .args in hasRoom (a .page .now) (a .at) ≡ true
-roomy c = sym (c .before .has-room .ensures) ∙ c .if1 .taken
-
 room : (c : tie.Then1) → let a = c .before .before .before .args in a .at + longest ≤ length (a .page .now)
-room c = let a = c .before .before .before .args in leb-true (a .at + longest) (length (a .page .now)) (roomy c)
+room c =
+    let a = c .before .before .before .args in
+    leb-true (a .at + longest) (length (a .page .now)) (sym (c .before .has-room .ensures) ∙ c .if1 .taken)
 
 count-requires : tie.Need-count-requires
 unfolding words lineWords
@@ -46,7 +43,8 @@ returns c =
     let at-count = c .before .before .before .before .before .before in
     let counted = at-count .count .ensures in
     let newline = c .before .before .word .ensures in
-    with-room _ _ _ (roomy (at-count .before .before)) (omega (arith, counted .short, newline .ends)) (both (counted .appends) newline)
+    with-room _ _ _ (room (at-count .before .before)) (omega (arith, counted .short, newline .ends))
+    (one-behind-other (counted .appends) newline)
 
 -- without room
 returns-2 : tie.Need-returns-2

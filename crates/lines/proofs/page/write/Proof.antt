@@ -1,14 +1,12 @@
 -- `lines::page::write` meets its promise: an event's line is one word. Assumes nothing.
 use Prim.Native.Nat.{_+_, _≤_}
 use native.Mathlib.Omega.{arith}
-use mathlib.Core.Path.{_≡_, sym, _∙_}
-use mathlib.Core.Bool.{true}
+use mathlib.Core.Path.{sym, _∙_}
 use lib.ListN.{length}
 use borrow.Author.Tests.{leb-true}
 use Rattle.lines.proofs.Table.{line-word}
 use Rattle.lines.proofs.Growth.{like}
 use Rattle.lines.specs.Lines.{longest}
-use Rattle.lines.specs.Page.{hasRoom}
 use Rattle.lines.proofs.Room.{with-room, without-room}
 use borrow.Author.Needs.{needs}
 use Rattle.lines.proofs.page.write.Statement.{statement}
@@ -21,11 +19,10 @@ place-requires : tie.Need-place-requires
 place-requires c κs = search needs
 
 -- what the test says
-roomy : (c : tie.Then1) → let a = c .before .before .before .args in hasRoom (a .page .now) (a .at) ≡ true
-roomy c = sym (c .before .has-room .ensures) ∙ c .if1 .taken
-
 room : (c : tie.Then1) → let a = c .before .before .before .args in a .at + longest ≤ length (a .page .now)
-room c = let a = c .before .before .before .args in leb-true (a .at + longest) (length (a .page .now)) (roomy c)
+room c =
+    let a = c .before .before .before .args in
+    leb-true (a .at + longest) (length (a .page .now)) (sym (c .before .has-room .ensures) ∙ c .if1 .taken)
 
 word-requires : tie.Need-word-requires
 word-requires c κs =
@@ -42,7 +39,7 @@ returns c =
     let at-place = c .before .before .before .before in
     let word = line-word (at-place .before .before .before .before .args .line) in
     let put = rw (at-place .place .ensures) at (c .before .before .word .ensures) in
-    with-room _ _ _ (roomy (at-place .before)) (omega (arith, word .short, put .ends)) (like (word .texts) put)
+    with-room _ _ _ (room (at-place .before)) (omega (arith, word .short, put .ends)) (like (word .texts) put)
 
 -- without room
 returns-2 : tie.Need-returns-2

@@ -1,9 +1,9 @@
 -- `marks::set` meets its promise: a mark of the word that was clear leaves room for its power. Assumes nothing.
-use Prim.Native.Nat.{_+_, _^_, _<_}
+use Prim.Native.Nat.{_<_}
 use mathlib.Core.Path.{_≡_, sym, _∙_}
 use native.Mathlib.Omega.{arith}
 use borrow.Author.Needs.{needs}
-use borrow.Author.Tests.{lt-ltb, le-ltb, eq-eqb, ne-eqb, eqb-true}
+use borrow.Author.Tests.{lt-ltb, le-ltb, eqb-true}
 use Rattle.marks.specs.Window.{mark, set}
 use Rattle.marks.proofs.Digits.{digit, one-shifted, set-below}
 use Rattle.marks.proofs.Moves.{not-set}

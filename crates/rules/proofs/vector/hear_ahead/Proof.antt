@@ -1,6 +1,5 @@
 -- `vector::hear_ahead` meets its contract. Assumes nothing.
 use borrow.Author.Tests.{le-leb, lt-leb}
-use lib.Dec.{eqb}
 use Rattle.octets.proofs.Bools.{one-unless}
 use Rattle.rules.specs.Vector.{onward}
 use borrow.Author.Needs.{needs}
@@ -12,21 +11,15 @@ cast-order c = search needs
 
 -- H ahead or more: a rogue
 returns : tie.Need-returns
-returns c = rw (le-leb _ _ (c .before .if1 .taken)) (c .discard .ensures)
+returns c =
+    let a = c .before .before .args in rw (le-leb (a .history) (a .d) (c .before .if1 .taken)) (c .discard .ensures)
 
 -- within the history: the window moves on
 returns-2 : tie.Need-returns-2
 unfolding onward
 returns-2 c =
     let slid = c .before in
-    let at-start = slid .before .before in
-    rw (
-      lt-leb _ _ (slid .before .if1 .left),
-      c .set .ensures,
-      slid .slide .ensures .moves,
-      slid .slide .ensures .loses,
-      one-unless (eqb (at-start .args .d) 1),
-    )
+    simp (lt-leb _ _ (slid .before .if1 .left), c .set .ensures, slid .slide .ensures .moves, slid .slide .ensures .loses, one-unless)
 
 pub hear-ahead-spec : {M : Type 1} → statement M
 hear-ahead-spec = tie.close (search (tie.spec, cast-order, returns, returns-2, needs))

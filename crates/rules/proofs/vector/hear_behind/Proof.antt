@@ -8,7 +8,8 @@ use Rattle.rules.proofs.vector.hear_behind.Tie as tie
 
 -- H behind or more: a rogue
 returns : tie.Need-returns
-returns c = rw (le-leb _ _ (c .before .if1 .taken)) (c .discard .ensures)
+returns c =
+    let a = c .before .before .args in rw (le-leb (a .history) (a .k) (c .before .if1 .taken)) (c .discard .ensures)
 
 -- a repeat
 returns-2 : tie.Need-returns-2

@@ -1,8 +1,8 @@
 -- `hear_vector` meets its promise: each way out is the rule's line for the d that its tests say. Assumes nothing.
-use mathlib.Core.Path.{_≡_, sym, ap, _∙_}
+use mathlib.Core.Path.{sym}
 use native.Mathlib.Omega.{arith}
-use Rattle.rules.specs.Difference.{apart, ahead, behind}
-use Rattle.rules.specs.Vector.{byDifference, vector}
+use Rattle.rules.specs.Difference.{apart}
+use Rattle.rules.specs.Vector.{vector}
 use Rattle.rules.proofs.VectorLaws.{is-same, is-ahead, is-behind}
 use borrow.Author.Needs.{needs}
 use Rattle.rules.proofs.vector.hear_vector.Statement.{statement}

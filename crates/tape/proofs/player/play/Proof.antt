@@ -107,7 +107,8 @@ returns c =
     let at-fault = c .before .before in
     let at-number = at-fault .before .before .before in
     let at-turn = at-number .before .before in
-    ends-faulty (at-turn .before .before .before .before .pre .0) (at-turn .before .loop .inv) (at-fault .fault .ensures)
+    let start = at-turn .before .before .before .before in
+    ends-faulty (start .pre .0) (at-turn .before .loop .inv) (at-fault .fault .ensures)
     (sym (at-turn .take-turn .ensures) ∙ at-number .number .given .1)
 
 enum-known-counters : tie.Need-enum-known-counters Inv-loop μ-loop
@@ -133,7 +134,8 @@ returns-2 c =
     let at-figures = at-counts .before .before in
     let at-counters = at-figures .before .before in
     let at-turn = at-counters .before .before in
-    ends-well (at-turn .before .before .before .before .pre .0) (at-turn .before .loop .inv)
+    let start = at-turn .before .before .before .before in
+    ends-well (start .pre .0) (at-turn .before .loop .inv)
     (rw (at-figures .figures .ensures) at (at-counts .counts .ensures))
     (sym (at-turn .take-turn .ensures) ∙ at-counters .counters .given .1)
 

@@ -1,6 +1,6 @@
 -- `ahz_tape` meets its promise: each arm answers as the room did. Assumes nothing.
 use borrow.Author.Needs.{needs}
-use Rattle.tape_c.proofs.TapeTold.{tape-told}
+use Rattle.tape_c.proofs.Told.{tape-told}
 use Rattle.tape_c.proofs.tapes.ahz_tape.Statement.{statement}
 use Rattle.tape_c.proofs.tapes.ahz_tape.Tie as tie
 

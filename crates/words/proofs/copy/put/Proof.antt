@@ -1,6 +1,6 @@
 -- `words::copy::put` meets its promise: a word is copied in each turn, and with all of them copied the buffer is what `Puts` says.
 -- Assumes nothing.
-use Prim.Native.Nat.{ℕ, _-_, _≤_}
+use Prim.Native.Nat.{_-_, _≤_}
 use native.Mathlib.Omega.{arith}
 use mathlib.Core.Path.{_≡_, refl, _∙_}
 use mathlib.Core.List.{_++_}

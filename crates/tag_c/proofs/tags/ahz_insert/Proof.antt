@@ -1,8 +1,8 @@
--- `frame_c::frames::ahz_insert` meets its promise: it tells what the room answered. Assumes nothing.
+-- `tag_c::tags::ahz_insert` meets its promise: it tells what the room answered. Assumes nothing.
 use borrow.Author.Needs.{needs}
-use Rattle.frame_c.proofs.Told.{written-told}
-use Rattle.frame_c.proofs.frames.ahz_insert.Statement.{statement}
-use Rattle.frame_c.proofs.frames.ahz_insert.Tie as tie
+use Rattle.tag_c.proofs.Told.{written-told}
+use Rattle.tag_c.proofs.tags.ahz_insert.Statement.{statement}
+use Rattle.tag_c.proofs.tags.ahz_insert.Tie as tie
 
 returns : tie.Need-returns
 returns c = let answered = c .before .before .before .before in written-told _ (answered .insert .ensures) (c .tell .ensures)

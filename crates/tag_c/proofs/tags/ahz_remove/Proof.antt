@@ -1,8 +1,8 @@
--- `frame_c::frames::ahz_remove` meets its promise: it tells what the room answered. Assumes nothing.
+-- `tag_c::tags::ahz_remove` meets its promise: it tells what the room answered. Assumes nothing.
 use borrow.Author.Needs.{needs}
-use Rattle.frame_c.proofs.Told.{written-told}
-use Rattle.frame_c.proofs.frames.ahz_remove.Statement.{statement}
-use Rattle.frame_c.proofs.frames.ahz_remove.Tie as tie
+use Rattle.tag_c.proofs.Told.{written-told}
+use Rattle.tag_c.proofs.tags.ahz_remove.Statement.{statement}
+use Rattle.tag_c.proofs.tags.ahz_remove.Tie as tie
 
 returns : tie.Need-returns
 returns c = let answered = c .before .before .before .before in written-told _ (answered .remove .ensures) (c .tell .ensures)

@@ -3,10 +3,10 @@ use mathlib.Core.Path.{_≡_, sym, _∙_}
 use borrow.Author.Needs.{needs}
 use denote.Ref.{now}
 use Rattle.volts.specs.declared.Volts.{Volts}
-use Rattle.cards_c.specs.Charge.{ofVolts, voltsBy, VoltsTo}
-use Rattle.cards_c.proofs.Told.{volts-told}
-use Rattle.cards_c.proofs.charge.ahz_volts.Statement.{statement}
-use Rattle.cards_c.proofs.charge.ahz_volts.Tie as tie
+use Rattle.volts_c.specs.Readings.{ofVolts, voltsBy, VoltsTo}
+use Rattle.volts_c.proofs.Told.{volts-told}
+use Rattle.volts_c.proofs.readings.ahz_volts.Statement.{statement}
+use Rattle.volts_c.proofs.readings.ahz_volts.Tie as tie
 
 -- each arm's reading is of the arm's kind
 enum-known-v : tie.Need-enum-known-v

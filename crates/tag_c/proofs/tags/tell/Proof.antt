@@ -1,8 +1,8 @@
--- `frame_c::frames::tell` meets its promise, by what the room answered. Assumes nothing.
+-- `tag_c::tags::tell` meets its promise, by what the room answered. Assumes nothing.
 use mathlib.Core.Path.{refl}
 use borrow.Author.Needs.{needs}
-use Rattle.frame_c.proofs.frames.tell.Statement.{statement}
-use Rattle.frame_c.proofs.frames.tell.Tie as tie
+use Rattle.tag_c.proofs.tags.tell.Statement.{statement}
+use Rattle.tag_c.proofs.tags.tell.Tie as tie
 
 -- a length
 returns : tie.Need-returns
