@@ -1,7 +1,7 @@
 /* Ahozurime: the proved link layer, for C and C++.
  *
- * Link target/archive/TARGET/libahozurime.a, which tools/archive makes. The numbers in quotes below are those of the scope paper, "When the
- * layer says no".
+ * Link target/archive/TARGET/libahozurime.a, which tools/archive makes. The refusals' numbers are those of the scope paper, "When the layer says
+ * no".
  *
  * Answers. Every call that can refuse answers one number:
  *   0            done
@@ -211,7 +211,7 @@ uint8_t ahz_volts(const uint8_t *payload, size_t payload_octets, double gain, do
 
 /* Runs a bench tape and writes its lines to the start of out, and how many octets they are to length. Later octets of out stay.
  * Every tape has an output: a fault of the tape is a line of it, its last.
- * Refusal: 8 where out is shorter than the output. */
+ * It takes AHZ_TAPE_OUTPUT octets of stack and some hundreds more. Refusal: 8 where out is shorter than the output. */
 uint8_t ahz_tape(const uint8_t *tape, size_t tape_octets, uint8_t *out, size_t out_octets, size_t *length);
 
 #ifdef __cplusplus
