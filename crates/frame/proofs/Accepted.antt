@@ -6,7 +6,7 @@ use mathlib.Core.List.{List, [], _++_}
 use lib.ListN.{length}
 use borrow.Author.Tests.{ltb-false, eqb-false}
 use Rattle.octets.specs.Number.{be16}
-use Rattle.octets.specs.Checks.{Verdict, good, refuse, verdict}
+use Rattle.octets.specs.Checks.{Check, Verdict, good, refuse, verdict, _then_}
 use Rattle.octets.proofs.Bools.{by-cases, neither}
 use Rattle.octets.proofs.Order.{verdict-append, clear, both-good}
 use Rattle.frame.specs.declared.Header.{Header}
@@ -34,6 +34,15 @@ refused-by o {n} e = by-verdict (verdict (checks o)) e
     by-verdict : (v : Verdict) → Refused n ≡ answered v (header o) → v ≡ refuse n
     by-verdict good e = cc
     by-verdict (refuse m) e = cc
+
+-- checks after those of reading: a refusal of reading decides; where reading accepts, the others do
+pub read-refused : (o : List ℕ) (more : List Check) {k : ℕ} → Refused k ≡ reading o → verdict (checks o ++ more) ≡ refuse k
+unfolding _then_
+read-refused o more e = simp (verdict-append, refused-by o e)
+
+pub read-good : (o : List ℕ) (more : List Check) {h : Header} → Frame h ≡ reading o → verdict (checks o ++ more) ≡ verdict more
+unfolding _then_
+read-good o more e = simp (verdict-append, frame-good o e .0)
 
 module _ (o : List ℕ) (ok : verdict (checks o) ≡ good) where
   parts-good : (verdict (lengthChecks o) ≡ good)

@@ -3,14 +3,13 @@
 -- is 8. Assumes nothing.
 use Prim.Native.Nat.{ℕ}
 use mathlib.Core.Path.{_≡_}
-use mathlib.Core.Bool.{cond}
-use mathlib.Core.List.{List, [], _∷_}
+use mathlib.Core.Bool.{cond, not}
+use mathlib.Core.List.{List, [], _∷_, _++_}
 use lib.ListN.{length}
-use Rattle.octets.specs.Copy.{fits, putIn}
+use Rattle.octets.specs.Copy.{fits, putIn, outputBy}
+use Rattle.octets.specs.Checks.{Check, _⇒_, verdict, refusal}
 use Rattle.frame.specs.declared.Header.{Header}
-use Rattle.frame.specs.declared.Reading.{Reading}
-use Rattle.frame.specs.declared.Reading.the-variants.{Frame, Refused}
-use Rattle.frame.specs.Reader.{reading}
+use Rattle.frame.specs.Reader.{checks, header, reading}
 use Rattle.frame.specs.Part.{payloadBy}
 
 -- a header in words: the addresses, whether there is a C-TAG and its VLAN id, whether there is an R-TAG and its number, the last type,
@@ -27,24 +26,19 @@ headerWords h =
     ∷ h .payload
     ∷ []
 
--- what is answered of a reading: "1 to 5 as in reading", then 8 for "output shorter than result"
-abbrev pub answerBy : Reading → List ℕ → ℕ
-answerBy (Frame h) out = cond (fits (headerWords h) out) 0 8
-answerBy (Refused n) out = n
+-- "1 to 5 as in reading" .. "then 8": "output shorter than result"
+unfoldable pub recordChecks : List ℕ → List ℕ → List Check
+recordChecks o out = checks o ++ (not (fits (headerWords (header o)) out) ⇒ 8 ∷ [])
 
--- what the lent record then holds; on a refusal "buffers keep their values"
-abbrev pub recordBy : Reading → List ℕ → List ℕ
-recordBy (Frame h) out = cond (fits (headerWords h) out) (putIn (headerWords h) out) out
-recordBy (Refused n) out = out
-
--- a reading put into a record
-pub record Records (reading : Reading) (out : List ℕ) (r : ℕ) (later : List ℕ) : Type 0 where
-  pub answer : r ≡ answerBy reading out
-  pub words : later ≡ recordBy reading out
+-- what `fill` promises its caller: a header put into a record, or no room for it
+pub record Fills (h : Header) (out : List ℕ) (r : ℕ) (later : List ℕ) : Type 0 where
+  pub answer : r ≡ cond (fits (headerWords h) out) 0 8
+  pub words : later ≡ cond (fits (headerWords h) out) (putIn (headerWords h) out) out
 
 -- the promises: of `ahz_read`
-abbrev pub ReadsTo : List ℕ → List ℕ → ℕ → List ℕ → Type 0
-ReadsTo o out r later = Records (reading o) out r later
+pub record ReadsTo (o out : List ℕ) (r : ℕ) (later : List ℕ) : Type 0 where
+  pub answer : r ≡ refusal (verdict (recordChecks o out))
+  pub words : later ≡ outputBy (verdict (recordChecks o out)) (headerWords (header o)) out
 
 -- of `ahz_payload`: the length of the part that `payload` hands back, which is the frame's last octets
 abbrev pub PayloadOctets : List ℕ → ℕ → Type 0

@@ -1,8 +1,7 @@
 // "Reading a frame" (document 01) for C: the header as a record of words, a payload as its length.
 use frame::Header;
 use frame::Reading;
-ghost use Rattle.frame.specs.declared.Reading.the-variants.{Frame};
-ghost use Rattle.frame_c.specs.Frames.{Records, ReadsTo, PayloadOctets};
+ghost use Rattle.frame_c.specs.Frames.{Fills, ReadsTo, PayloadOctets};
 
 // The header of a frame, in eight words.
 #[no_mangle]
@@ -16,7 +15,7 @@ pub extern "C" fn ahz_read(frame: &[u8], header: &mut [u64]) -> u8
 }
 
 fn fill(h: Header, header: &mut [u64]) -> u8
-    ensures { λ r. ⌜ Records (Frame h) (now (header .entry)) r (now (header .exit)) ⌝ }
+    ensures { λ r. ⌜ Fills h (now (header .entry)) r (now (header .exit)) ⌝ }
 {
     let filled = [
         h.destination,

@@ -12,11 +12,11 @@ use Rattle.frame.specs.declared.Header.{Header}
 use Rattle.frame.specs.declared.Reading.the-variants as Reading
 use Rattle.frame.specs.Layout.{tagPlace}
 use Rattle.frame.specs.Reader.{reading}
-use Rattle.frame.proofs.Accepted.{starts-within}
+use Rattle.frame.proofs.Accepted.{starts-within, read-refused, read-good}
 use Rattle.tag.specs.declared.Written.the-variants as Written
 use Rattle.tag.specs.Insertion.{insertedAt, inserted, insertChecks, Inserts}
 use Rattle.tag.proofs.Splice.{length-inserted}
-use Rattle.tag.proofs.Decided.{read-refused, read-good, refuses, writes, is-numbered, place-without}
+use Rattle.tag.proofs.Decided.{refuses, writes, is-numbered, place-without}
 
 module _ (o : List ℕ) (n : ℕ) (out : List ℕ) where
   pub insert-unread : {k : ℕ} → Reading.Refused k ≡ reading o → Inserts o n out (Written.Refused k) out

@@ -1,13 +1,21 @@
 -- From the promises of the rooms below to those of the calls for C. Assumes nothing.
 use Prim.Native.Nat.{ℕ}
-use mathlib.Core.Path.{_≡_, sym, ap, _∙_}
-use mathlib.Core.Bool.{Bool, true, false, cond}
-use mathlib.Core.List.{List}
-use borrow.Author.Tests.{eq-eqb}
+use mathlib.Core.Path.{_≡_, refl, sym, ap, _∙_}
+use mathlib.Core.Bool.{Bool, false, cond, not}
+use mathlib.Core.List.{List, [], _∷_}
+use lib.ListN.{length}
+use lib.Dec.{eqb}
+use borrow.Author.Tests.{eq-eqb, eqb-true}
+use Rattle.octets.specs.Checks.{_⇒_, Verdict, good, refuse, verdict, _then_, refusal}
+use Rattle.octets.proofs.Bools.{either}
+use Rattle.octets.proofs.Order.{verdict-append, first-check}
 use Rattle.setup.specs.declared.Setup.{Setup}
+use Rattle.setup.specs.Range.{setupChecks, checked}
+use Rattle.setup.proofs.InRange.{all-met}
 use Rattle.recovery.specs.declared.State.{State}
+use Rattle.recovery.specs.declared.Begun.{Begun}
 use Rattle.recovery.specs.declared.Begun.the-variants.{Ready, Refused}
-use Rattle.recovery.specs.Resets.{begunFrom}
+use Rattle.recovery.specs.Resets.{freshState, begunFrom}
 use Rattle.calls.specs.declared.Call.{Call}
 use Rattle.calls.specs.declared.Called.{Called}
 use Rattle.calls.specs.Answering.{answered, Answers}
@@ -16,7 +24,7 @@ use Rattle.states.specs.declared.Held.the-variants as held-in
 use Rattle.states.specs.Fields.{held, stateOf, ReadsState, Keeps}
 use Rattle.states.proofs.ReadLaws.{read-state, read-nothing}
 use Rattle.states.proofs.SameWords.{holds}
-use Rattle.recovery_c.specs.Recoveries.{StepsTo, TestsTo, BeginsTo}
+use Rattle.recovery_c.specs.Recoveries.{beginChecks, beginWords, StepsTo, TestsTo, BeginsTo}
 
 -- words that hold no state, and words that do
 module _ (w : List ℕ) where
@@ -39,14 +47,42 @@ module _ (w : List ℕ) where
         let h = read-state w p .0 in
         record { answer = answer-told; words = k .words ∙ rw (eq-eqb _ _ (holds w h .twenty), h, there) }
 
+-- a verdict that comes to a number refuses by it
+by-number : (v : Verdict) → eqb (refusal v) 0 ≡ false → v ≡ refuse (refusal v)
+by-number good e = cc
+by-number (refuse n) e = refl
+
+refused-one : {a b : ℕ} → Refused a ≡ Refused b → a ≡ b
+refused-one e = cc
+
 -- what a fresh state's setup, and the words lent for it, come to
-module _ {setup : Setup} {w : List ℕ} where
+module _ (setup : Setup) (w : List ℕ) where
+  unmet : {n : ℕ} → Refused n ≡ begunFrom setup → verdict (setupChecks setup) ≡ refuse n
+  unfolding begunFrom checked
+  unmet {n} =
+      either (λ (b : Begun). Refused n ≡ b → verdict (setupChecks setup) ≡ refuse n) (eqb (checked setup) 0) (λ _ e. cc)
+      (λ number e. by-number (verdict (setupChecks setup)) number ∙ ap refuse (sym (refused-one e)))
+
+  met : {s : State} → Ready s ≡ begunFrom setup → (verdict (setupChecks setup) ≡ good) × (s ≡ freshState setup)
+  unfolding begunFrom
+  met {s} =
+      either (λ (b : Begun). Ready s ≡ b → (verdict (setupChecks setup) ≡ good) × (s ≡ freshState setup)) (eqb (checked setup) 0)
+      (λ none e. (all-met setup (eqb-true _ _ none), cc))
+      (λ _ e. (cc, cc))
+
   pub begun-refused : {n : ℕ} → Refused n ≡ begunFrom setup → BeginsTo setup w n w
-  begun-refused e = record { answer = rw (← e); words = rw (← e) }
+  unfolding beginChecks _then_
+  begun-refused {n} e =
+      let v : verdict (beginChecks setup w) ≡ refuse n = simp (verdict-append, unmet e) in record { answer = rw v; words = rw v }
 
-  module _ {s : State} {kept : Bool} {later : List ℕ} (e : Ready s ≡ begunFrom setup) (k : Keeps s w kept later) where
-    pub begun-unfit : kept ≡ false → BeginsTo setup w 14 later
-    begun-unfit off = let l = sym (k .answer) ∙ off in record { answer = rw (← e, l); words = k .words ∙ rw (← e, l) }
-
-    pub begun-kept : kept ≡ true → BeginsTo setup w 0 later
-    begun-kept on = let l = sym (k .answer) ∙ on in record { answer = rw (← e, l); words = k .words ∙ rw (← e, l) }
+  pub begun-ready : {s : State} {kept : Bool} {r : ℕ} {later : List ℕ} → Ready s ≡ begunFrom setup → Keeps s w kept later
+      → r ≡ cond kept 0 14 → BeginsTo setup w r later
+  unfolding beginChecks verdict _then_
+  begun-ready e k a =
+      let is = met e in
+      let fit = eqb (length w) 20 in
+      let v : verdict (beginChecks setup w) ≡ verdict (not fit ⇒ 14 ∷ []) = simp (verdict-append, is .0) in
+      record {
+        answer = a ∙ rw (k .answer, v) (sym (first-check refusal fit 14 []));
+        words = k .words ∙ rw (is .1, v) (sym (first-check (λ v. beginWords v (freshState setup) w) fit 14 []));
+      }

@@ -2,14 +2,15 @@
 -- the words of `states` that hold the next state. Assumes nothing.
 use Prim.Native.Nat.{ℕ}
 use mathlib.Core.Path.{_≡_}
-use mathlib.Core.Bool.{cond}
-use mathlib.Core.List.{List}
+use mathlib.Core.Bool.{cond, not}
+use mathlib.Core.List.{List, [], _∷_, _++_}
 use lib.ListN.{length}
 use lib.Dec.{eqb}
+use Rattle.octets.specs.Checks.{Check, _⇒_, Verdict, good, refuse, verdict, refusal}
 use Rattle.setup.specs.declared.Setup.{Setup}
-use Rattle.recovery.specs.declared.Begun.{Begun}
-use Rattle.recovery.specs.declared.Begun.the-variants as begun
-use Rattle.recovery.specs.Resets.{begunFrom}
+use Rattle.setup.specs.Range.{setupChecks}
+use Rattle.recovery.specs.declared.State.{State}
+use Rattle.recovery.specs.Resets.{freshState}
 use Rattle.calls.specs.declared.Call.{Call}
 use Rattle.calls.specs.declared.Call.the-variants.{LatentTest}
 use Rattle.calls.specs.Answering.{answered}
@@ -26,18 +27,16 @@ pub record StepsTo (call : Call) (w : List ℕ) (r : ℕ) (later : List ℕ) : T
 abbrev pub TestsTo : List ℕ → ℕ → Type 0
 TestsTo w r = r ≡ cond (held w) (numberOf (answered (stateOf w) LatentTest .answer)) 14
 
--- what is answered of a fresh state: "A setup is checked 15, 27, 16 to 19 wherever it is handed in by itself"; then 14 unless the words are
--- twenty
-abbrev pub beginAnswer : Begun → List ℕ → ℕ
-beginAnswer (begun.Ready s) w = cond (eqb (length w) 20) 0 14
-beginAnswer (begun.Refused n) w = n
+-- "A setup is checked 15, 27, 16 to 19 wherever it is handed in by itself"; then 14 unless the words are twenty
+unfoldable pub beginChecks : Setup → List ℕ → List Check
+beginChecks setup w = setupChecks setup ++ (not (eqb (length w) 20) ⇒ 14 ∷ [])
 
--- and what the lent words then are: the fresh state's, or, where it is refused, what they were
-abbrev pub beginWords : Begun → List ℕ → List ℕ
-beginWords (begun.Ready s) w = cond (eqb (length w) 20) (wordsOf s) w
-beginWords (begun.Refused n) w = w
+-- what the lent words then are: those of the fresh state, and on a refusal what they were
+abbrev pub beginWords : Verdict → State → List ℕ → List ℕ
+beginWords good s w = wordsOf s
+beginWords (refuse n) s w = w
 
 -- of `ahz_fresh`
 pub record BeginsTo (setup : Setup) (w : List ℕ) (r : ℕ) (later : List ℕ) : Type 0 where
-  pub answer : r ≡ beginAnswer (begunFrom setup) w
-  pub words : later ≡ beginWords (begunFrom setup) w
+  pub answer : r ≡ refusal (verdict (beginChecks setup w))
+  pub words : later ≡ beginWords (verdict (beginChecks setup w)) (freshState setup) w

@@ -12,11 +12,11 @@ use Rattle.frame.specs.declared.Header.{Header}
 use Rattle.frame.specs.declared.Reading.the-variants as Reading
 use Rattle.frame.specs.Layout.{tagPlace}
 use Rattle.frame.specs.Reader.{reading}
-use Rattle.frame.proofs.Accepted.{starts-within}
+use Rattle.frame.proofs.Accepted.{starts-within, read-refused, read-good}
 use Rattle.tag.specs.declared.Written.the-variants as Written
 use Rattle.tag.specs.Removal.{removedAt, removed, removeChecks, Removes}
 use Rattle.tag.proofs.Splice.{length-removed}
-use Rattle.tag.proofs.Decided.{read-refused, read-good, refuses, writes, is-numbered, place-with}
+use Rattle.tag.proofs.Decided.{refuses, writes, is-numbered, place-with}
 
 module _ (o out : List ℕ) where
   pub remove-unread : {k : ℕ} → Reading.Refused k ≡ reading o → Removes o out (Written.Refused k) out

@@ -1,25 +1,17 @@
--- What a setup in range says, value by value, and one check of the list after the other. Assumes nothing.
+-- What a setup in range says: every check of the list is met, and so each value lies in its range. Assumes nothing.
 use Prim.Native.Nat.{ℕ, _≤_}
 use mathlib.Core.Path.{_≡_, refl}
-use mathlib.Core.Bool.{Bool, true, false, cond, not}
-use mathlib.Core.List.{List, _∷_}
+use mathlib.Core.Bool.{true, not}
 use lib.Dec.{leb}
 use borrow.Author.Tests.{leb-true, not-false}
 use native.Mathlib.Nat.{mul-le-mul}
 use native.Mathlib.Omega.{arith}
-use Rattle.octets.specs.Checks.{Check, _⇒_, verdict, refusal}
+use Rattle.octets.specs.Checks.{good, verdict}
 use Rattle.octets.proofs.Bools.{both}
-use Rattle.octets.proofs.Order.{passed-by}
+use Rattle.octets.proofs.Order.{numbered, nothing-refused, clear}
 use Rattle.setup.specs.declared.Setup.{Setup}
 use Rattle.setup.specs.Conversion.{fullTicks, ticksOf}
 use Rattle.setup.specs.Range.{within, setupChecks, checked, fullOf}
-
--- the first check of a list, and then the others
-pub first-check : (holds : Bool) (number : ℕ) (later : List Check)
-    → refusal (verdict (not holds ⇒ number ∷ later)) ≡ cond holds (refusal (verdict later)) number
-unfolding verdict
-first-check true number later = refl
-first-check false number later = refl
 
 within-is : (lo hi n : ℕ) → within lo hi n ≡ true → (lo ≤ n) × (n ≤ hi)
 within-is lo hi n e =
@@ -34,15 +26,20 @@ pub record InRange (setup : Setup) : Type 0 where
   pub rate : (1 ≤ setup .rate) × (setup .rate ≤ 10000)
   pub paths : (2 ≤ setup .paths) × (setup .paths ≤ 8)
 
+-- a setup in range meets every check
+pub all-met : (setup : Setup) → checked setup ≡ 0 → verdict (setupChecks setup) ≡ good
+unfolding checked setupChecks numbered
+all-met setup e = nothing-refused (setupChecks setup) refl e
+
 pub in-range : (setup : Setup) → checked setup ≡ 0 → InRange setup
-unfolding checked setupChecks
+unfolding setupChecks
 in-range setup e =
-    let rule = passed-by (not (leb (setup .rule) 1)) 14 _ e in
-    let taken = passed-by (not (leb (setup .taken) 1)) 26 _ (rule .2) in
-    let history = passed-by (not (within 2 64 (setup .history))) 15 _ (taken .2) in
-    let timeout = passed-by (not (within 1 3600000 (setup .timeout .0))) 16 _ (history .2) in
-    let rate = passed-by (not (within 1 10000 (setup .rate))) 17 _ (timeout .2) in
-    let paths = passed-by (not (within 2 8 (setup .paths))) 18 _ (rate .2) in
+    let rule = clear (not (leb (setup .rule) 1)) 15 _ (all-met setup e) in
+    let taken = clear (not (leb (setup .taken) 1)) 27 _ (rule .1) in
+    let history = clear (not (within 2 64 (setup .history))) 16 _ (taken .1) in
+    let timeout = clear (not (within 1 3600000 (setup .timeout .0))) 17 _ (history .1) in
+    let rate = clear (not (within 1 10000 (setup .rate))) 18 _ (timeout .1) in
+    let paths = clear (not (within 2 8 (setup .paths))) 19 _ (rate .1) in
     record {
       rule = leb-true _ _ (not-false _ (rule .0));
       taken = leb-true _ _ (not-false _ (taken .0));

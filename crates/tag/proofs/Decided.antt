@@ -1,28 +1,19 @@
--- What insertion and removal decide alike: by the checks of reading first, and where the tag stands by what reading said. Assumes nothing.
+-- What insertion and removal decide alike: what a verdict makes of the output, and where the tag stands by what reading said. Assumes
+-- nothing.
 use Prim.Native.Nat.{ℕ, _+_}
 use mathlib.Core.Path.{_≡_, _∙_, ap}
 use mathlib.Core.Bool.{true, false}
-use mathlib.Core.List.{List, _++_}
+use mathlib.Core.List.{List}
 use lib.ListN.{length}
 use Rattle.octets.specs.Copy.{putIn}
-use Rattle.octets.specs.Checks.{Check, Verdict, good, refuse, verdict, _then_}
-use Rattle.octets.proofs.Order.{verdict-append}
+use Rattle.octets.specs.Checks.{Verdict, good, refuse}
 use Rattle.frame.specs.declared.Header.{Header}
 use Rattle.frame.specs.declared.Reading.the-variants as Reading
 use Rattle.frame.specs.Layout.{tagPlace, numbered, kindPlace, payloadPlace}
-use Rattle.frame.specs.Reader.{checks, header, reading}
-use Rattle.frame.proofs.Accepted.{frame-good, refused-by}
+use Rattle.frame.specs.Reader.{header, reading}
+use Rattle.frame.proofs.Accepted.{frame-good}
 use Rattle.tag.specs.declared.Written.the-variants as Written
 use Rattle.tag.specs.Output.{Writes}
-
--- checks after those of reading: a refusal of reading decides; where reading accepts, the others do
-pub read-refused : (o : List ℕ) (more : List Check) {k : ℕ} → Reading.Refused k ≡ reading o → verdict (checks o ++ more) ≡ refuse k
-unfolding _then_
-read-refused o more e = simp (verdict-append, refused-by o e)
-
-pub read-good : (o : List ℕ) (more : List Check) {h : Header} → Reading.Frame h ≡ reading o → verdict (checks o ++ more) ≡ verdict more
-unfolding _then_
-read-good o more e = simp (verdict-append, frame-good o e .0)
 
 -- a verdict of refusal leaves the output, and a good one puts the result there
 pub refuses : {v : Verdict} (result out : List ℕ) {k : ℕ} → v ≡ refuse k → Writes v result out (Written.Refused k) out

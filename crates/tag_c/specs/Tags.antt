@@ -6,7 +6,7 @@ use lib.ListN.{length}
 use Rattle.octets.specs.Checks.{Verdict, good, refuse, verdict, refusal}
 use Rattle.tag.specs.declared.Written.{Written}
 use Rattle.tag.specs.declared.Written.the-variants as written
-use Rattle.tag.specs.Output.{outputBy}
+use Rattle.octets.specs.Copy.{outputBy}
 use Rattle.tag.specs.Insertion.{inserted, insertChecks}
 use Rattle.tag.specs.Removal.{removed, removeChecks}
 

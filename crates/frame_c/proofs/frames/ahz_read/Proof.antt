@@ -1,7 +1,7 @@
 -- `frame_c::frames::ahz_read` meets its promise: the header of a frame that reading accepts, or its refusal. Assumes nothing.
 use mathlib.Core.Path.{sym, _∙_}
 use borrow.Author.Needs.{needs}
-use Rattle.frame_c.proofs.Told.{refusal-told}
+use Rattle.frame_c.proofs.Told.{frame-told, refusal-told}
 use Rattle.frame_c.proofs.frames.ahz_read.Statement.{statement}
 use Rattle.frame_c.proofs.frames.ahz_read.Tie as tie
 
@@ -10,11 +10,11 @@ returns : tie.Need-returns
 returns c =
     let filled = c .before .before in
     let at-h = filled .before .before .before in
-    rw (← (sym (at-h .h .given .1) ∙ at-h .before .before .read .ensures)) (filled .fill .ensures)
+    frame-told _ _ (sym (at-h .h .given .1) ∙ at-h .before .before .read .ensures) (filled .fill .ensures)
 
 -- a refusal
 returns-2 : tie.Need-returns-2
-returns-2 c = let at-no = c .before in refusal-told (sym (at-no .no .given .1) ∙ at-no .before .before .read .ensures)
+returns-2 c = let at-no = c .before in refusal-told _ _ (sym (at-no .no .given .1) ∙ at-no .before .before .read .ensures)
 
 enum-known-h : tie.Need-enum-known-h
 enum-known-h c = search needs

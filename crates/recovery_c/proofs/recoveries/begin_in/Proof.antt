@@ -1,6 +1,6 @@
 -- `recoveries::begin_in` meets its contract: the setup's refusal, then the number of words. Assumes nothing.
 use mathlib.Core.Path.{sym, _∙_}
-use Rattle.recovery_c.proofs.Told.{begun-refused, begun-unfit, begun-kept}
+use Rattle.recovery_c.proofs.Told.{begun-refused, begun-ready}
 use borrow.Author.Needs.{needs}
 use Rattle.recovery_c.proofs.recoveries.begin_in.Statement.{statement}
 use Rattle.recovery_c.proofs.recoveries.begin_in.Tie as tie
@@ -23,7 +23,7 @@ returns c =
     let kept = c .before .before .before in
     let ready = kept .before .before .before in
     let begun = ready .before .before in
-    begun-kept (sym (ready .s .given .1) ∙ begun .fresh .ensures) (kept .keep .ensures) (c .if1 .taken)
+    begun-ready _ _ (sym (ready .s .given .1) ∙ begun .fresh .ensures) (kept .keep .ensures) (rw (c .if1 .taken))
 
 -- more or fewer
 returns-2 : tie.Need-returns-2
@@ -31,13 +31,13 @@ returns-2 c =
     let kept = c .before .before .before in
     let ready = kept .before .before .before in
     let begun = ready .before .before in
-    begun-unfit (sym (ready .s .given .1) ∙ begun .fresh .ensures) (kept .keep .ensures) (c .if1 .left)
+    begun-ready _ _ (sym (ready .s .given .1) ∙ begun .fresh .ensures) (kept .keep .ensures) (rw (c .if1 .left))
 
 -- the setup is refused
 returns-3 : tie.Need-returns-3
 returns-3 c =
     let begun = c .before .before .before in
-    begun-refused (sym (c .before .no .given .1) ∙ begun .fresh .ensures)
+    begun-refused _ _ (sym (c .before .no .given .1) ∙ begun .fresh .ensures)
 
 pub begin-in-spec : {M : Type 1} → statement M
 begin-in-spec =

@@ -2,7 +2,8 @@
 use borrow.Author.Needs.{needs}
 use Rattle.octets.specs.Checks.{verdict}
 use Rattle.setup.specs.Range.{setupChecks, checked}
-use Rattle.setup.proofs.InRange.{first-check}
+use Rattle.octets.specs.Checks.{verdict, refusal}
+use Rattle.octets.proofs.Order.{first-check}
 use Rattle.setup.proofs.Setup.check.Statement.{statement}
 use Rattle.setup.proofs.Setup.check.Tie as tie
 
@@ -36,7 +37,7 @@ returns c =
       paths .unless .ensures,
       paths .before .within .ensures,
     )
-    (simp first-check)
+    (simp (first-check refusal))
 
 pub check-spec : {M : Type 1} → statement M
 check-spec = tie.close (search (tie.spec, cast-within, cast-within-2, cast-within-3, returns, needs))
