@@ -1,17 +1,13 @@
--- Every call hands a state that is not sound back as it was. Assumes nothing.
-use mathlib.Core.Path.{_≡_, refl}
-use mathlib.Core.Bool.{false}
-use Rattle.recovery.specs.declared.State.{State}
-use Rattle.recovery.specs.Soundness.{sound}
+-- A state that is not sound comes back as it was (`specs/Caller`). Assumes nothing.
+use mathlib.Core.Path.{refl}
 use Rattle.recovery.specs.Resets.{resetOf}
 use Rattle.recovery.specs.Packets.{packetOf}
 use Rattle.recovery.specs.Timer.{tickOf}
 use Rattle.recovery.specs.LatentErrors.{latentResetOf}
-use Rattle.calls.specs.declared.Call.{Call}
 use Rattle.calls.specs.declared.Call.the-variants.{Packet, Tick, Reset, LatentReset, LatentTest}
-use Rattle.calls.specs.Answering.{answered}
+use Rattle.calls.specs.Caller.{HandedBack}
 
-pub handed-back : (s : State) → sound s ≡ false → (call : Call) → answered s call .state ≡ s
+pub handed-back : HandedBack
 unfolding packetOf tickOf resetOf latentResetOf
 handed-back s unsound (Packet p) = rw unsound
 handed-back s unsound Tick = rw unsound

@@ -1,7 +1,14 @@
--- A caller that only hands back what it was given: a list of calls, each on the state that the last one returned. Assumes nothing.
+-- A caller that only hands back what it was given: a list of calls, each on the state that the last one returned. The claims about it are
+-- `SoundKept`, `NeverRefused` (proofs/NeverRefused) and `HandedBack` (proofs/HandedBack). Assumes nothing.
 use Prim.Native.Nat.{ℕ}
-use mathlib.Core.List.{List, [], _∷_}
+use mathlib.Core.Path.{_≡_}
+use mathlib.Core.Bool.{true, false}
+use mathlib.Core.List.{List, [], _∷_, map}
+use Rattle.setup.specs.declared.Setup.{Setup}
 use Rattle.recovery.specs.declared.State.{State}
+use Rattle.recovery.specs.declared.Begun.the-variants.{Ready}
+use Rattle.recovery.specs.Soundness.{sound}
+use Rattle.recovery.specs.Resets.{Begins}
 use Rattle.calls.specs.declared.Call.{Call}
 use Rattle.answers.specs.declared.Answer.{Answer}
 use Rattle.answers.specs.declared.Answer.the-variants.{Pass, Discard, Tick, Timeout, Reset, LatentReset, Agrees, Error, Refused}
@@ -31,3 +38,16 @@ after s call = answered s call .state
 unfoldable pub refusals : State → List Call → List ℕ
 refusals s [] = []
 refusals s (call ∷ calls) = refusal s call ∷ refusals (after s call) calls
+
+-- no call on a sound state is refused, and it hands a sound state back
+abbrev pub SoundKept : Type 0
+SoundKept = (s : State) → sound s ≡ true → (call : Call) → (refusal s call ≡ 0) × (sound (after s call) ≡ true)
+
+-- so from a fresh state on the caller never sees 14, nor any other refusal
+abbrev pub NeverRefused : Type 0
+NeverRefused =
+    (setup : Setup) (s : State) → Begins setup (Ready s) → (calls : List Call) → refusals s calls ≡ map (λ (call : Call). 0) calls
+
+-- "state and buffers keep their values": a state that is not sound comes back as it was, whatever the call
+abbrev pub HandedBack : Type 0
+HandedBack = (s : State) → sound s ≡ false → (call : Call) → answered s call .state ≡ s

@@ -1,4 +1,4 @@
--- A walk ends for every payload, and reaches every card exactly once. Assumes nothing.
+-- A card taken, and a walk, mean what `specs/Walk` says. Assumes nothing.
 use Prim.Native.Nat.{ℕ, zero, suc, _≤_, _<_}
 use mathlib.Core.Path.{_≡_, refl, sym, ap, ap₂, _∙_}
 use mathlib.Core.Bool.{Bool, true, false, cond}
@@ -7,21 +7,20 @@ use native.Mathlib.Omega.{arith}
 use lib.ListN.{length, take-append-drop, length-drop}
 use borrow.Author.Tests.{ltb-true, le-ltb}
 use Rattle.cards.specs.Payload.{nextCard, width, isCard, cardPart, restPart}
-use Rattle.cards.specs.Walk.{Walk, walk, walkIn, stop, step}
+use Rattle.cards.specs.Walk.{CardsTaken, Walk, walk, walkIn, stop, step, WalksMean}
 use Rattle.cards.specs.declared.Card.{Card}
 use Rattle.octets.proofs.Bools.{either}
 use Rattle.cards.proofs.Width.{width-fits}
 use Rattle.cards.proofs.Alone.{own-card}
 
--- at a card the rest is shorter than the payload
-pub rest-shorter : (o : List ℕ) → isCard (nextCard o) ≡ true → length (restPart o) < length o
-rest-shorter o card =
+pub cards-taken : CardsTaken
+cards-taken o card =
     let some : 0 < width (nextCard o) = ltb-true 0 (width (nextCard o)) card in
-    rw card (simp length-drop (omega (arith, width-fits o)))
-
--- the card and its rest are the payload
-pub part-and-rest : (o : List ℕ) → isCard (nextCard o) ≡ true → cardPart o ++ restPart o ≡ o
-part-and-rest o card = rw card (take-append-drop (width (nextCard o)) o)
+    record {
+      whole = rw card (take-append-drop (width (nextCard o)) o);
+      shorter = rw card (simp length-drop (omega (arith, width-fits o)));
+      own = own-card o card;
+    }
 
 -- ---- one step of a walk, whatever the bound
 step-in : (n : ℕ) (o : List ℕ) → isCard (nextCard o) ≡ true → walkIn (suc n) o ≡ step o (walkIn n (restPart o))
@@ -43,24 +42,13 @@ enough zero m o h k = sym (stop-in m o (dry o h))
 enough (suc n) zero o h k = stop-in (suc n) o (dry o k)
 enough (suc n) (suc m) o h k =
     either (λ w. w ≡ walkIn (suc m) o) (isCard (nextCard o))
-    (λ card. let l = rest-shorter o card in ap (step o) (enough n m (restPart o) (omega arith) (omega arith)) ∙ sym (step-in m o card))
+    (λ card.
+    let l = cards-taken o card .shorter in
+    ap (step o) (enough n m (restPart o) (omega arith) (omega arith)) ∙ sym (step-in m o card))
     (λ none. sym (stop-in (suc m) o none))
 
--- ---- the walk: at a card it is that card and the walk through its rest, and it stops at anything else
-pub walk-next : (o : List ℕ) → isCard (nextCard o) ≡ true → walk o ≡ step o (walk (restPart o))
-unfolding walk
-walk-next o card =
-    let l = rest-shorter o card in
-    enough (length o) (suc (length o)) o (omega arith) (omega arith)
-    ∙ step-in (length o) o card
-    ∙ ap (step o) (enough (length o) (length (restPart o)) (restPart o) (omega arith) (omega arith))
-
-pub walk-stop : (o : List ℕ) → isCard (nextCard o) ≡ false → walk o ≡ stop o
-unfolding walk
-walk-stop o none = stop-in (length o) o none
-
 -- To show something of every payload's walk, show it where the walk stops, and at a card, of which the walk through the rest has it.
-pub along : (P : List ℕ → Walk → Type 0)
+along : (P : List ℕ → Walk → Type 0)
     → ((o : List ℕ) → isCard (nextCard o) ≡ false → P o (stop o))
     → ((o : List ℕ) (w : Walk) → isCard (nextCard o) ≡ true → P (restPart o) w → P o (step o w))
     → (o : List ℕ) → P o (walk o)
@@ -71,25 +59,27 @@ along P stops steps o = go (length o) o (omega arith)
     go zero o h = stops o (dry o h)
     go (suc n) o h =
         either (P o) (isCard (nextCard o))
-        (λ card. let l = rest-shorter o card in steps o (walkIn n (restPart o)) card (go n (restPart o) (omega arith)))
+        (λ card. let l = cards-taken o card .shorter in steps o (walkIn n (restPart o)) card (go n (restPart o) (omega arith)))
         (stops o)
 
--- the cards' octets, in order, and what is left are the payload
-pub walk-whole : (o : List ℕ) → flatten (walk o .parts) ++ walk o .left ≡ o
-unfolding flatten
-walk-whole =
-    along (λ o w. flatten (w .parts) ++ w .left ≡ o) (λ o none. refl)
-    (λ o w card h. append-assoc (cardPart o) (flatten (w .parts)) (w .left) ∙ ap (λ (l : List ℕ). cardPart o ++ l) h ∙ part-and-rest o card)
-
--- the walk ends at an end or a refusal, and not before
-pub walk-ends : (o : List ℕ) → isCard (walk o .verdict) ≡ false
-walk-ends = along (λ o w. isCard (w .verdict) ≡ false) (λ o none. none) (λ o w card h. h)
-
-pub walk-verdict : (o : List ℕ) → walk o .verdict ≡ nextCard (walk o .left)
-walk-verdict = along (λ o w. w .verdict ≡ nextCard (w .left)) (λ o none. refl) (λ o w card h. h)
-
--- each part, read by itself, is its card
-pub walk-cards : (o : List ℕ) → map nextCard (walk o .parts) ≡ walk o .cards
-walk-cards =
-    along (λ o w. map nextCard (w .parts) ≡ w .cards) (λ o none. refl)
-    (λ o w card h. ap₂ (λ (c : Card) (cs : List Card). c ∷ cs) (own-card o card) h)
+pub walks-mean : WalksMean
+unfolding walk flatten
+walks-mean o =
+    record {
+      goes = λ card. let l = cards-taken o card .shorter in
+          enough (length o) (suc (length o)) o (omega arith) (omega arith)
+          ∙ step-in (length o) o card
+          ∙ ap (step o) (enough (length o) (length (restPart o)) (restPart o) (omega arith) (omega arith));
+      stops = stop-in (length o) o;
+      whole =
+          along (λ o w. flatten (w .parts) ++ w .left ≡ o) (λ o none. refl)
+          (λ o w card h.
+          append-assoc (cardPart o) (flatten (w .parts)) (w .left) ∙ ap (λ (l : List ℕ). cardPart o ++ l) h ∙ cards-taken o card .whole)
+          o;
+      own =
+          along (λ o w. map nextCard (w .parts) ≡ w .cards) (λ o none. refl)
+          (λ o w card h. ap₂ (λ (c : Card) (cs : List Card). c ∷ cs) (own-card o card) h)
+          o;
+      last = along (λ o w. w .verdict ≡ nextCard (w .left)) (λ o none. refl) (λ o w card h. h) o;
+      ends = along (λ o w. isCard (w .verdict) ≡ false) (λ o none. none) (λ o w card h. h) o;
+    }

@@ -2,23 +2,21 @@
 use mathlib.Core.Path.{refl, sym, ap, _∙_}
 use Prim.Native.Nat.{ℕ, _+_, _%_, _^_}
 use native.Mathlib.Nat.{add-assoc, mod-add-mod, mod-mod}
-use Rattle.rules.specs.declared.Effect.{Effect}
-use Rattle.counters.specs.declared.Counters.{Counters}
 use Rattle.counters.specs.Counting.{plus, counted, resetCounted}
 use Rattle.counters.specs.LatentErrors.{latentCounted}
-use Rattle.counters.specs.Growth.{Grown, GrownByPacket, Stays}
+use Rattle.counters.specs.Growth.{Grown, PacketsGrow, ResetsStay, LatentResetsStay}
 
-pub counted-grows : (k : Counters) (tagless : ℕ) (effect : Effect) → GrownByPacket k effect (counted k tagless effect)
+pub packets-grow : PacketsGrow
 unfolding plus counted
-counted-grows k tagless effect = record { passed-grown = mod-mod _ _; lost-grown = mod-mod _ _ }
+packets-grow k tagless effect = record { passed-grown = mod-mod _ _; lost-grown = mod-mod _ _ }
 
-pub reset-stays : (k : Counters) → Stays k (resetCounted k)
+pub resets-stay : ResetsStay
 unfolding resetCounted
-reset-stays k = record { same-passed = refl; same-lost = refl }
+resets-stay k = record { same-passed = refl; same-lost = refl }
 
-pub latent-stays : (k : Counters) → Stays k (latentCounted k)
+pub latent-resets-stay : LatentResetsStay
 unfolding latentCounted
-latent-stays k = record { same-passed = refl; same-lost = refl }
+latent-resets-stay k = record { same-passed = refl; same-lost = refl }
 
 -- a counter that has grown, and grows once more
 pub grown-more : (a n b m c : ℕ) → Grown a n b → Grown b m c → Grown a (n + m) c

@@ -1,13 +1,8 @@
--- "Both sides of each edge" (document 01): the cases with a star, proved together. One list, one statement, computed from the written
--- rules. Assumes nothing.
-use Prim.Native.Nat.{ℕ}
-use mathlib.Core.Path.{_≡_, refl}
-use mathlib.Core.List.{List, [], _∷_, map}
+-- The cases with a star (`specs/Starred`), computed from the written rules. Assumes nothing.
+use mathlib.Core.Path.{refl}
 use Rattle.octets.specs.Checks.{verdict}
 use Rattle.frame.specs.Layout.{tag}
 use Rattle.marks.specs.Window.{mark, none, clearFrom, set, reach, moved, lostBy, slid, lostIn}
-use Rattle.setup.specs.declared.Setup.{Setup}
-use Rattle.setup.specs.Values.{setupOf}
 use Rattle.setup.specs.Conversion.{fullTicks, ticksOf}
 use Rattle.setup.specs.Range.{setupChecks, checked, isVector}
 use Rattle.rules.specs.Difference.{apart, signed, difference, outOfOrder}
@@ -15,86 +10,14 @@ use Rattle.rules.specs.TakeAny.{firstMarks, first}
 use Rattle.rules.specs.Vector.{late, onward, byDifference, vector}
 use Rattle.rules.specs.Matching.{match}
 use Rattle.rules.specs.ByRule.{byRule}
-use Rattle.recovery.specs.declared.State.{State}
-use Rattle.recovery.specs.declared.Packet.the-variants.{Numbered}
-use Rattle.recovery.specs.declared.Verdict.{Verdict}
-use Rattle.recovery.specs.declared.Verdict.the-variants.{Pass, Discard}
 use Rattle.counters.specs.Counting.{plus, counted}
 use Rattle.recovery.specs.Soundness.{awaits, sound}
 use Rattle.recovery.specs.Resets.{freshState}
 use Rattle.recovery.specs.Timer.{restarted}
 use Rattle.recovery.specs.Packets.{numbered, settled, heard, packetOf}
+use Rattle.edges.specs.Starred.{cases, Starred}
 
--- what is asked: packets from a fresh state, by rule (0 vector, 1 match) and history length; ticks of milliseconds at ticks per second;
--- the octets of an R-TAG
-pub data Asked : Type 0 where
-  hear : (rule history : ℕ) → List ℕ → Asked
-  ticks : (ms perSecond : ℕ) → Asked
-  tagged : ℕ → Asked
-
--- what is answered: the verdicts, with order and rogue after the last; a number; octets
-pub data Answer : Type 0 where
-  heardAs : List Verdict → (order rogue : ℕ) → Answer
-  number : ℕ → Answer
-  octets : List ℕ → Answer
-
-pub record Case : Type 0 where
-  pub asked : Asked
-  pub said : Answer
-
--- 100 ms at 100 ticks per second, two paths, difference 1
-abbrev pub setup : ℕ → ℕ → Setup
-setup rule history = setupOf rule 0 history 100 100 2 1
-
-abbrev pub verdicts : State → List ℕ → List Verdict
-verdicts s [] = []
-verdicts s (n ∷ ns) = packetOf s (Numbered n) .verdict ∷ verdicts (packetOf s (Numbered n) .state) ns
-
-abbrev pub after : State → List ℕ → State
-after s [] = s
-after s (n ∷ ns) = after (packetOf s (Numbered n) .state) ns
-
-abbrev pub answer : Asked → Answer
-answer (hear rule history ns) =
-    let s = freshState (setup rule history) in
-    heardAs (verdicts s ns) (after s ns .counters .order) (after s ns .counters .rogue)
-answer (ticks ms perSecond) = number (ticksOf (record { 0 = ms }) perSecond .0)
-answer (tagged n) = octets (tag n)
-
-unfoldable pub cases : List Case
-cases =
-    -- fresh, 10: pass. H 4, newest 10: 13 passes; 14 is rogue
-    record { asked = hear 0 4 (10 ∷ []); said = heardAs (Pass ∷ []) 0 0 }
-    ∷ record { asked = hear 0 4 (10 ∷ 13 ∷ []); said = heardAs (Pass ∷ Pass ∷ []) 1 0 }
-    ∷ record { asked = hear 0 4 (10 ∷ 14 ∷ []); said = heardAs (Pass ∷ Discard ∷ []) 0 1 }
-    -- after 10, 13, H 4: 11 passes; 10 is discarded, not rogue; 9 is rogue
-    ∷ record { asked = hear 0 4 (10 ∷ 13 ∷ 11 ∷ []); said = heardAs (Pass ∷ Pass ∷ Pass ∷ []) 2 0 }
-    ∷ record { asked = hear 0 4 (10 ∷ 13 ∷ 10 ∷ []); said = heardAs (Pass ∷ Pass ∷ Discard ∷ []) 1 0 }
-    ∷ record { asked = hear 0 4 (10 ∷ 13 ∷ 9 ∷ []); said = heardAs (Pass ∷ Pass ∷ Discard ∷ []) 1 1 }
-    -- 65,535 then 0: pass, order unchanged
-    ∷ record { asked = hear 0 4 (65535 ∷ 0 ∷ []); said = heardAs (Pass ∷ Pass ∷ []) 0 0 }
-    -- H 64, first 0: 65,473 passes; 65,472 is rogue; 32,768 is rogue
-    ∷ record { asked = hear 0 64 (0 ∷ 65473 ∷ []); said = heardAs (Pass ∷ Pass ∷ []) 1 0 }
-    ∷ record { asked = hear 0 64 (0 ∷ 65472 ∷ []); said = heardAs (Pass ∷ Discard ∷ []) 0 1 }
-    ∷ record { asked = hear 0 64 (0 ∷ 32768 ∷ []); said = heardAs (Pass ∷ Discard ∷ []) 0 1 }
-    -- 100 ms at 100 per second: 10 ticks; 1 ms: 1; 11 ms: 2
-    ∷ record { asked = ticks 100 100; said = number 10 }
-    ∷ record { asked = ticks 1 100; said = number 1 }
-    ∷ record { asked = ticks 11 100; said = number 2 }
-    -- match 5, 6, 5: all pass, order 1; match 5, 5: the second discarded
-    ∷ record { asked = hear 1 4 (5 ∷ 6 ∷ 5 ∷ []); said = heardAs (Pass ∷ Pass ∷ Pass ∷ []) 1 0 }
-    ∷ record { asked = hear 1 4 (5 ∷ 5 ∷ []); said = heardAs (Pass ∷ Discard ∷ []) 0 0 }
-    -- number 258: F1 C1 00 00 01 02
-    ∷ record { asked = tagged 258; said = octets (0xF1 ∷ 0xC1 ∷ 0x00 ∷ 0x00 ∷ 0x01 ∷ 0x02 ∷ []) }
-    ∷ []
-
-abbrev pub given : Case → Answer
-given c = answer (c .asked)
-
-abbrev pub expected : Case → Answer
-expected c = c .said
-
-pub starred : map given cases ≡ map expected cases
+pub starred : Starred
 unfolding cases tag mark none clearFrom set reach moved lostBy slid lostIn verdict fullTicks ticksOf setupChecks checked isVector apart
     signed difference outOfOrder firstMarks first late onward byDifference vector match plus awaits sound freshState restarted byRule
     numbered counted settled heard packetOf

@@ -1,5 +1,5 @@
 // "Both sides of each edge" (document 01): every case is run, and what it gave is printed. The frame cases are frames of zeros with a tag
-// or two put in. The cases with a star are proved besides, in proofs/Starred.antt.
+// or two put in. The cases with a star are proved besides: `Starred` of specs/Starred.antt.
 use frame::Reading;
 use libc::STDOUT_FILENO;
 use recovery::Begun;

@@ -1,5 +1,5 @@
 -- What a slide means, mark by mark, said without single moves, and what the setting of a mark means: `slid`, `lostIn` and `set` of Window
--- are held to it. Assumes nothing.
+-- are held to it by the claims `SlidesMean` and `SetsMean`, which proofs/Meaning proves. Assumes nothing.
 use Prim.Native.Nat.{ℕ, zero, suc, _+_, _-_, _≤_, _<_}
 use mathlib.Core.Path.{_≡_}
 use mathlib.Core.Bool.{true, cond}

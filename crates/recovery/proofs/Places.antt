@@ -1,7 +1,5 @@
--- The statement about places (demand 3, quoted in `specs/Places` of `rules`), shown of the calls: `places`, below. It stands on the
--- definitions of `specs/Places` of the room `rules`, which packets pass and what is counted, and of `specs/Spans.antt`, what a span is and
--- what is said of it. That single packets obey the places is shown in `rules` (proofs/Places); here it is carried over a whole span of
--- calls. Assumes nothing.
+-- Demand 3 (`PlacesAccounted` of `specs/Spans`), shown of the calls. That single packets obey the places is shown in `rules`
+-- (proofs/Places); here it is carried over a whole span of calls. Assumes nothing.
 use mathlib.Core.Path.{_≡_}
 use mathlib.Core.Bool.{true}
 use mathlib.Core.List.{List, _∷_}
@@ -14,10 +12,11 @@ use Rattle.marks.specs.Window.{most}
 use Rattle.setup.specs.Range.{isVector}
 use Rattle.recovery.specs.Packets.{packetOf}
 use Rattle.rules.specs.Places.{passed}
-use Rattle.recovery.specs.Spans.{Span, starts, hears, ticks, latent-resets, latent-tests, SixteenBits, numbers, taken, Accounts}
+use Rattle.recovery.specs.Spans.{Span, starts, hears, ticks, latent-resets, latent-tests, SixteenBits, numbers, taken}
+use Rattle.recovery.specs.Spans.{PlacesAccounted}
 use Start.{started}
 use Run.{Tracks, starts-tracks, numbered-tracks, tagless-tracks, tick-tracks, latent-tracks, range, verdict-there}
-use Rattle.rules.proofs.Places.Sum.{closes}
+use Rattle.rules.proofs.Places.Sum.{sum-closes}
 -- to be read in this order: one packet at a sound state; ticks and latent resets, which leave the places alone; what the state keeps over a
 -- span; and where a span starts
 pub mod OnePacket
@@ -44,17 +43,14 @@ module _ (start : State) (rule : isVector (start .setup) ≡ true) where
   run packets s (latent-resets {s = t} span e) = rw e (latent-tracks start rule _ _ t (run packets t span))
   run packets s (latent-tests span e) = run packets s span
 
--- Under the vector rule, after each event from a fresh start or a reset to the next, for every history length that a setup allows, every
--- first number and a span of any length.
-pub places : (start : State) (packets : List Packet) (s : State) → isVector (start .setup) ≡ true → Span start packets s
-    → Accounts start packets s
+pub places-accounted : PlacesAccounted
 unfolding After
-places start packets s rule span =
+places-accounted start packets s rule span =
     let track : After start packets s = run start rule packets s span in
     let h : (1 ≤ start .setup .history) × (start .setup .history ≤ most) = range start rule _ _ s track in
     record {
       next = verdict-there start rule _ _ s track;
       passed-grown = track .passed-grown;
       lost-grown = track .lost-grown;
-      sum-closes = closes (start .setup .history) (numbers packets) (omega arith) (omega arith);
+      sum-closes = sum-closes (start .setup .history) (numbers packets) (omega arith) (omega arith);
     }

@@ -1,12 +1,15 @@
 -- A span, and what the third demand says of it: "Under the vector rule, from a fresh start or a reset (a timeout is one, a latent reset is
--- not) to the next". Each of its steps is one call, of which only that call's promise is known. Assumes nothing.
+-- not) to the next". Each of its steps is one call, of which only that call's promise is known. The demand itself is the claim
+-- `PlacesAccounted`, at the end, which proofs/Places proves; what a place is, and which are passed, lost and open, is said in
+-- `specs/Places` of the room `rules`. Assumes nothing.
 use Prim.Native.Nat.{ℕ, _+_, _<_}
 use mathlib.Core.Path.{_≡_}
-use mathlib.Core.Bool.{cond}
+use mathlib.Core.Bool.{true, cond}
 use mathlib.Core.List.{List, [], _∷_}
 use lib.Dec.{eqb}
 use lib.ListN.{length}
 use Rattle.setup.specs.declared.Setup.{Setup}
+use Rattle.setup.specs.Range.{isVector}
 use Rattle.recovery.specs.declared.State.{State}
 use Rattle.recovery.specs.declared.Begun.the-variants.{Ready}
 use Rattle.recovery.specs.declared.Packet.{Packet}
@@ -23,7 +26,7 @@ use Rattle.recovery.specs.Packets.{Hears}
 use Rattle.recovery.specs.Timer.{Times}
 use Rattle.recovery.specs.LatentErrors.{LatentResets, LatentTests}
 use Rattle.counters.specs.Growth.{Grown}
-use Rattle.rules.specs.Places.{passes, passed, window, movedOn, lost, stillOpen}
+use Rattle.rules.specs.Places.{passes, passed, lost, Closes}
 
 -- the state that a fresh start, a reset or a timeout hands back
 pub data Starts : State → Type 0 where
@@ -61,18 +64,23 @@ taken setup [] = 0
 taken setup (Numbered number ∷ older) = taken setup older
 taken setup (Tagless ∷ older) = taken setup older + cond (eqb (setup .taken) 1) 1 0
 
--- The demand of the state after the packets, with `places` those that the places' rule lets pass: the next numbered packet gets the verdict
--- that the places say, whatever it is; passed has grown by the places passed and the packets taken without a number, and lost by the
--- places lost; "And the sum closes: places in the window at the first numbered packet, plus places the window moved on, equal numbered
--- packets passed, plus places lost, plus those still open". What has happened in a span up to any one event is a span, so "it holds after
--- each event".
+-- the demand of the state after the packets, with `places` those that the places' rule lets pass
 pub record Accounted (h : ℕ) (places : List ℕ) (start : State) (packets : List Packet) (s : State) : Type 0 where
+  -- "A numbered packet passes exactly if ..": the next one gets the verdict that the places say, whatever its number
   pub next : (number : ℕ) (r : Heard) → number < 65536 → Hears s (Numbered number) r
       → r .verdict ≡ cond (passes h places number) Pass Discard
+  -- "stored passed and lost grow by these counts modulo 2^64, passed also by packets taken without a number"
   pub passed-grown : Grown (start .counters .passed) (length places + taken (start .setup) packets) (s .counters .passed)
   pub lost-grown : Grown (start .counters .lost) (lost h places) (s .counters .lost)
-  pub sum-closes : window h places + movedOn places ≡ length places + lost h places + stillOpen h places
+  -- "And the sum closes"
+  pub sum-closes : Closes h places
 
 -- "All this is counted from the list of packets alone": the places that passed are those of the numbers in it
 abbrev pub Accounts : State → List Packet → State → Type 0
 Accounts start packets s = Accounted (start .setup .history) (passed (start .setup .history) (numbers packets)) start packets s
+
+-- Demand 3: "Under the vector rule", for every history length that a setup allows, every first number and a span of any length. What has
+-- happened in a span up to any one event is a span, so "it holds after each event"
+abbrev pub PlacesAccounted : Type 0
+PlacesAccounted =
+    (start : State) (packets : List Packet) (s : State) → isVector (start .setup) ≡ true → Span start packets s → Accounts start packets s

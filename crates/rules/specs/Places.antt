@@ -1,11 +1,15 @@
 -- Places: the third demand of the layer, which document 01 cites as demand 3. Which numbered packets pass, and which places are lost or
 -- still open: "All this is counted from the list of packets alone". A place never wraps: it is a natural number, and bears the sequence
 -- number place % 65,536. A late packet may stand below the first one, also where that has the number 0, so places are counted from one full
--- turn below zero: the first packet's place is 65,536 + its number. Every list here is latest first. Assumes nothing.
-use Prim.Native.Nat.{ℕ, zero, suc, _+_, _-_, _%_, max}
+-- turn below zero: the first packet's place is 65,536 + its number. Every list here is latest first. `NearestAlone`, `LeftForGood` and
+-- `SumCloses` are claims about these definitions, which proofs/Places proves; what is claimed of the calls is said in `specs/Spans` of the
+-- room `recovery`. Assumes nothing.
+use Prim.Native.Nat.{ℕ, zero, suc, _+_, _-_, _%_, _≤_, _<_, max}
+use mathlib.Core.Path.{_≡_}
 use mathlib.Core.Bool.{Bool, true, false, cond, not, _&&_, _||_}
 use mathlib.Core.List.{List, [], _∷_}
 use lib.Dec.{eqb, ltb}
+use lib.ListN.{length}
 
 -- "the newest (highest) passed place"
 unfoldable pub newestPlace : List ℕ → ℕ
@@ -30,6 +34,12 @@ near h p q = ltb p (q + h) && ltb q (p + h)
 -- the place with this number nearest the newest: of the 65,536 places from newest - 32,768 on, the one that bears the number
 unfoldable pub nearest : ℕ → ℕ → ℕ
 nearest newest number = newest - 32768 + (number + 65536 - (newest - 32768) % 65536) % 65536
+
+-- it is that place: of those from 32,768 below the newest to 32,767 above it, no other bears the number
+abbrev pub NearestAlone : Type 0
+NearestAlone =
+    (newest number p : ℕ) → 32768 ≤ newest → number < 65536 → newest ≤ p + 32768 → p < newest + 32768
+    → (nearest newest number ≡ p → p % 65536 ≡ number) × (p % 65536 ≡ number → nearest newest number ≡ p)
 
 -- the place of a numbered packet, after these places have passed: "the first numbered packet has the place of its own number, each later
 -- one the place of its number nearest the newest (highest) passed place"
@@ -73,6 +83,22 @@ movedOn ps = newestPlace ps - firstPlace ps
 unfoldable pub lost : ℕ → List ℕ → ℕ
 lost h ps = unpassed ps (firstPlace ps + 1 - h) (movedOn ps)
 
+-- what the window has left is left for good: no later packet passes there, so that a lost place is one whether it is counted as the window
+-- leaves it or afterwards
+abbrev pub LeftForGood : Type 0
+LeftForGood =
+    (h p : ℕ) (ps : List ℕ) (number left : ℕ) → left + h ≤ newestPlace (p ∷ ps)
+    → among left (after h (p ∷ ps) number) ≡ among left (p ∷ ps)
+
 -- "those still open": the places in the window that have not passed
 unfoldable pub stillOpen : ℕ → List ℕ → ℕ
 stillOpen h ps = unpassed ps (newestPlace ps + 1 - h) (window h ps)
+
+-- "And the sum closes: places in the window at the first numbered packet, plus places the window moved on, equal numbered packets passed,
+-- plus places lost, plus those still open"
+abbrev pub Closes : ℕ → List ℕ → Type 0
+Closes h ps = window h ps + movedOn ps ≡ length ps + lost h ps + stillOpen h ps
+
+-- so for every list of packet numbers
+abbrev pub SumCloses : Type 0
+SumCloses = (h : ℕ) (numbers : List ℕ) → 1 ≤ h → h ≤ 65536 → Closes h (passed h numbers)

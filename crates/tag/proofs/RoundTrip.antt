@@ -1,6 +1,5 @@
--- The round trips of document 01: put in, then taken off, gives the first frame; taken off, then put in with the same number, gives it
--- exactly where the reserved octets were zero; and what the frames read as on the way. First of the octets, then of the calls.
--- Assumes nothing.
+-- The round trips of the octets: put in, then taken off, gives the first frame; taken off, then put in with the same number, gives it
+-- exactly where the reserved octets were zero; and what the frames read as on the way. Trips says it of the calls. Assumes nothing.
 use Prim.Native.Nat.{ℕ, zero, suc, _+_, _-_, _*_, _≤_, _<_}
 use native.Mathlib.Omega.{arith}
 use mathlib.Core.Path.{_≡_, refl, sym, _∙_, ap}

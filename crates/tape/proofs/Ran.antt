@@ -9,9 +9,8 @@ use borrow.Author.Tests.{le-leb}
 use lib.Seq.{length-take-le}
 use Rattle.octets.specs.Copy.{fits, putIn, Puts}
 use Rattle.octets.proofs.Bools.{by-cases}
-use Rattle.tape.specs.declared.Written.{Written}
 use Rattle.tape.specs.declared.Written.the-variants as written
-use Rattle.tape.specs.Player.{enough, outputOf, PageHolds, Runs}
+use Rattle.tape.specs.Player.{enough, outputOf, PageHolds, Runs, EnoughRoom}
 
 -- a length is no refusal, and two lengths that are equal are one
 is : {n m : ℕ} → written.Length n ≡ written.Length m → n ≡ m
@@ -41,7 +40,5 @@ within tape out {n} {later} p =
     omega (arith, ap length put, length-append (outputOf tape) (drop (length (outputOf tape)) out)))
     (λ short. refused (rw short at (p .answer)))
 
--- a buffer of `enough` octets is never refused
-pub enough-room : (tape out : List ℕ) {r : Written} {later : List ℕ} → Runs tape out r later → enough ≤ length out
-    → r ≡ written.Length (length (outputOf tape))
-enough-room tape out p room = p .answer ∙ rw (le-leb (length (outputOf tape)) (length out) (omega (arith, p .suffices)))
+pub enough-room : EnoughRoom
+enough-room tape out r later p room = p .answer ∙ rw (le-leb (length (outputOf tape)) (length out) (omega (arith, p .suffices)))

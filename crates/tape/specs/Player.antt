@@ -76,3 +76,9 @@ pub record Runs (tape out : List ℕ) (r : Written) (later : List ℕ) : Type 0 
   pub answer : r ≡ cond (fits (outputOf tape) out) (written.Length (length (outputOf tape))) (written.Refused 8)
   pub buffer : later ≡ cond (fits (outputOf tape) out) (putIn (outputOf tape) out) out
   pub suffices : length (outputOf tape) ≤ enough
+
+-- `enough` is enough: a buffer of so many octets is never refused. A claim, which proofs/Ran proves
+abbrev pub EnoughRoom : Type 0
+EnoughRoom =
+    (tape out : List ℕ) (r : Written) (later : List ℕ) → Runs tape out r later → enough ≤ length out
+    → r ≡ written.Length (length (outputOf tape))

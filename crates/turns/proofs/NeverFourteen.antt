@@ -1,5 +1,4 @@
--- From a bench whose state is sound a turn leaves a sound state or ends the output, and never with fault 14: so no tape prints it, since
--- the bench that waits for its setup has no state yet. Assumes nothing.
+-- No turn ends with fault 14 (`specs/NeverFourteen`): neither a check nor a call on a sound state has that number. Assumes nothing.
 use Prim.Native.Nat.{ℕ}
 use native.Mathlib.Omega.{arith}
 use mathlib.Core.Path.{_≡_, refl, sym, ap, _∙_}
@@ -14,7 +13,6 @@ use Rattle.setup.specs.declared.Setup.{Setup}
 use Rattle.setup.specs.Range.{setupChecks, checked}
 use Rattle.recovery.specs.declared.State.{State}
 use Rattle.recovery.specs.declared.Begun.{Begun}
-use Rattle.counters.specs.declared.Counters.{Counters}
 use Rattle.recovery.specs.Resets.{begunFrom}
 use Rattle.recovery.specs.Soundness.{sound}
 use Rattle.recovery.proofs.FreshSound.{fresh-sound}
@@ -22,25 +20,13 @@ use Rattle.answers.specs.declared.Answer.{Answer}
 use Rattle.answers.specs.declared.Answer.the-variants as answer
 use Rattle.calls.specs.Answering.{answered}
 use Rattle.calls.specs.Caller.{refusalIn, refusal as refused, after}
-use Rattle.calls.proofs.NeverRefused.{one-call}
-use Rattle.lines.specs.declared.Line.{Line}
+use Rattle.calls.proofs.NeverRefused.{sound-kept}
 use Rattle.events.specs.Event.{checks}
 use Rattle.turns.specs.declared.Bench.{Bench}
 use Rattle.turns.specs.declared.Bench.the-variants.{Waits, Running}
 use Rattle.turns.specs.declared.Outcome.{Outcome}
-use Rattle.turns.specs.declared.Outcome.the-variants.{Next, Fault, End}
 use Rattle.turns.specs.Turn.{setupAt, callAt, lineOf, with, runs, begun, begins, isSetUp, decided, inTurn, eventAt, atEnd, outcomeAt}
-
--- the bench waits, or its state is sound
-pub data Fine : Bench → Type 0 where
-  waiting : Fine Waits
-  runsOn : {s : State} → sound s ≡ true → Fine (Running s)
-
--- an event to a sound state, a fault that is not 14, or the end
-pub data Kept : Outcome → Type 0 where
-  goes : {line : Line} {s : State} → sound s ≡ true → Kept (Next line s)
-  faulty : {n : ℕ} → (n ≡ 14 → ⊥) → Kept (Fault n)
-  ends : {k : Counters} → Kept (End k)
+use Rattle.turns.specs.NeverFourteen.{Fine, waiting, runsOn, Kept, goes, faulty, ends, NeverFourteen}
 
 -- an answer that is no refusal is a line
 answer-kept : (a : Answer) (s : State) → refusalIn a ≡ 0 → sound s ≡ true → Kept (with (lineOf a) s)
@@ -59,7 +45,7 @@ runs-kept : (s : State) → sound s ≡ true → (tape : List ℕ) (at : ℕ) �
 unfolding runs refused after
 runs-kept s ok tape at =
     let called = answered s (callAt tape at) in
-    let taken = one-call s ok (callAt tape at) in
+    let taken = sound-kept s ok (callAt tape at) in
     answer-kept (called .answer) (called .state) (taken .0) (taken .1)
 
 -- none of the checks in a list has 14 for its number
@@ -104,9 +90,10 @@ end-kept : (bench : Bench) → Kept (atEnd bench)
 end-kept Waits = faulty (λ (e : _≡_ {A = ℕ} 25 14). omega arith)
 end-kept (Running s) = ends
 
-pub never-14 : (tape : List ℕ) (at : ℕ) (bench : Bench) → Fine bench → Kept (outcomeAt tape at bench)
+pub never-fourteen : NeverFourteen
 unfolding outcomeAt eventAt checks lacks
-never-14 tape at bench fine =
-    either Kept (ltb at (length tape))
+never-fourteen tape at bench r fine e =
+    rw e
+    (either Kept (ltb at (length tape))
     (λ _. decided-kept (checks tape at (isSetUp bench)) (inTurn tape at bench) refl (turn-kept tape at bench fine))
-    (λ _. end-kept bench)
+    (λ _. end-kept bench))

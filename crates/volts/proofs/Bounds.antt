@@ -1,4 +1,4 @@
--- Volts are finite, never a NaN, and bounded, for every card and every calibration that is accepted. Assumes nothing.
+-- Volts are bounded (`specs/Bounds`), for every card and every calibration that is accepted. Assumes nothing.
 use mathlib.Core.Path.{_≡_}
 use mathlib.Core.Bool.{true, false, _&&_, true≢false}
 use mathlib.Core.List.{List}
@@ -10,13 +10,14 @@ use lib.Dec.{T, lit<, lit≤}
 use lib.Ieee.{Float, nan, inf, fin, binary64, up, down, lt, le, neg, ofInt, round, mul, div}
 use lib.Ieee.Fits.{down-pos, and-l, and-r}
 use lib.Ieee.Exact.{HasValue}
+use lib.Ieee.Bits.{is-true}
 use lib.Ieee.Scale.{round-same}
 use lib.Ieee.Back.{round-whole}
 use lib.Ieee.Order.{round-mono}
 use Rattle.octets.specs.Number.{be16}
 use Rattle.octets.proofs.Bools.{by-cases}
-use Rattle.volts.specs.Reading.{number, accepted, voltsOfRaw, voltsOfMillivolts, voltsOf, reading}
-use Rattle.volts.specs.Bounds.{Between, Bounded}
+use Rattle.volts.specs.Reading.{number, accepted, voltsOfRaw, voltsOfMillivolts, voltsOf}
+use Rattle.volts.specs.Bounds.{Between, Bounded, VoltsBounded, MillivoltsGrow}
 use Rattle.volts.specs.declared.Calibration.{Calibration}
 use Rattle.cards.proofs.Kind.{each, after16}
 use Rattle.volts.proofs.Judged.{read-accepted, read-refused}
@@ -41,7 +42,7 @@ offset-between (fin true m e) a b = omega (arith, at-least (100 * down e) (m * u
 offset-between (fin false m e) a b = omega (arith, at-most (m * up e * 1) (100 * down e) b)
 
 -- ---- volts
-pub raw-between : (n : ℕ) (c : Calibration) → n ≤ 65535 → T (accepted c) → Between 100 65635 (voltsOfRaw n c)
+raw-between : (n : ℕ) (c : Calibration) → n ≤ 65535 → T (accepted c) → Between 100 65635 (voltsOfRaw n c)
 raw-between n c h t =
     let g = c .gain in
     let k = c .offset in
@@ -66,26 +67,26 @@ millivolts-rounded : (n : ℕ) → n ≤ 65535 → voltsOfMillivolts n ≡ round
 unfolding ofInt
 millivolts-rounded n h = quotient (number n) n (round-whole binary64 false n (omega arith))
 
-pub millivolts-between : (n : ℕ) → n ≤ 65535 → Between 0 66 (voltsOfMillivolts n)
+millivolts-between : (n : ℕ) → n ≤ 65535 → Between 0 66 (voltsOfMillivolts n)
 millivolts-between n h = rw (millivolts-rounded n h) (round-between false n 1000 0 66 (lit< tt) (lit≤ tt) (omega arith))
 
--- more millivolts are never fewer volts, so no card gives more than 65,535 / 1000
-pub millivolts-grow : (n k : ℕ) → n ≤ k → k ≤ 65535 → T (le (voltsOfMillivolts n) (voltsOfMillivolts k))
+pub millivolts-grow : MillivoltsGrow
 millivolts-grow n k h l =
     rw (millivolts-rounded n (omega arith), millivolts-rounded k l)
-    (round-mono binary64 n 1000 k 1000 (lit< tt) (lit< tt) (omega arith))
+    (is-true _ (round-mono binary64 n 1000 k 1000 (lit< tt) (lit< tt) (omega arith)))
 
 -- ---- the answer of a reading, for any octets and any calibration
 word-small : (o : List ℕ) → ((i : ℕ) → getD o i 0 < 256) → be16 (drop 1 o) 0 ≤ 65535
 unfolding be16
 word-small o octets = rw (← after16 o) (omega (arith, octets 1, octets 2))
 
-pub reading-bounded : (o : List ℕ) → ((i : ℕ) → getD o i 0 < 256) → (c : Calibration) → Bounded (reading o c)
-reading-bounded o octets c =
-    by-cases (accepted c)
+pub volts-bounded : VoltsBounded
+volts-bounded o octets c r e =
+    rw e
+    (by-cases (accepted c)
     (λ ok.
     rw (← read-accepted o c ok)
     (each (λ k. Bounded (voltsOf k c)) o tt tt tt (λ k l. tt)
     (λ k l. raw-between (be16 (drop 1 o) 0) c (word-small o octets) (rw ok tt))
     (λ k l. millivolts-between (be16 (drop 1 o) 0) (word-small o octets))))
-    (λ bad. rw (← read-refused o c bad) tt)
+    (λ bad. rw (← read-refused o c bad) tt))

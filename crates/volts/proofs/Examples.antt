@@ -3,19 +3,13 @@ use mathlib.Core.Path.{_≡_, refl}
 use mathlib.Core.Bool.{Bool, true, false}
 use mathlib.Core.List.{List, [], _∷_, map}
 use Prim.Native.Nat.{ℕ}
-use lib.Ieee.{Float, binary64, ofBits, ofInt, neg, lt, le, add, mul}
+use lib.Ieee.{ofBits, ofInt, neg, lt, le, add, mul}
 use Rattle.octets.specs.Number.{be16}
-use Rattle.volts.specs.Reading.{number, accepted, reading}
+use Rattle.volts.specs.Reading.{number, double, accepted, reading, RawTen}
 use Rattle.volts.specs.declared.Calibration.{Calibration}
 use Rattle.volts.specs.declared.Volts.the-variants as volts
 
--- a double by its bits
-abbrev double : ℕ → Float
-double = ofBits binary64
-
--- "Raw 10, gain 0.25, offset 0.5 is 3.0"
-pub raw-ten : reading (0x11 ∷ 0 ∷ 10 ∷ []) (record { gain = double 0x3fd0_0000_0000_0000; offset = double 0x3fe0_0000_0000_0000 })
-    ≡ volts.FromRawCode (number 3)
+pub raw-ten : RawTen
 unfolding ofBits ofInt lt le neg mul add be16 reading
 raw-ten = refl
 

@@ -1,5 +1,5 @@
 -- Two answers that a promise allows are equal: both are the same number with the same sign. A double is one value of the logic's, zeros
--- have their sign, and the one `nan` never comes (`reading-bounded`). Assumes nothing.
+-- have their sign, and the one `nan` never comes (`volts-bounded`). Assumes nothing.
 use mathlib.Core.Path.{_≡_}
 use mathlib.Core.List.{List}
 use Prim.Native.Nat.{ℕ}

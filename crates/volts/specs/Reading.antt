@@ -1,10 +1,11 @@
--- Document 01, "Charge cards": a calibration, and the volts of a card, in the logic's own account of IEEE 754. Assumes nothing.
+-- Document 01, "Charge cards": a calibration, and the volts of a card, in the logic's own account of IEEE 754. `RawTen` is a claim, which
+-- proofs/Examples proves. Assumes nothing.
 use Prim.Native.Nat.{ℕ}
 use mathlib.Core.Path.{_≡_}
-use mathlib.Core.List.{List, _∷_}
+use mathlib.Core.List.{List, [], _∷_}
 use mathlib.Core.Bool.{Bool, not, _&&_}
 use lib.IntN.{pos}
-use lib.Ieee.{Float, binary64, add, mul, div, neg, lt, le, ofInt}
+use lib.Ieee.{Float, binary64, add, mul, div, neg, lt, le, ofInt, ofBits}
 use Rattle.octets.specs.Checks.{Check, _⇒_, Verdict, good, refuse, verdict}
 use Rattle.cards.specs.Payload.{standing, cardChecks}
 use Rattle.cards.specs.declared.Card.{Card}
@@ -16,6 +17,10 @@ use Rattle.volts.specs.declared.Volts.the-variants as volts
 -- a whole number as a double
 abbrev pub number : ℕ → Float
 number n = ofInt binary64 (pos n)
+
+-- a double by its bits
+abbrev pub double : ℕ → Float
+double = ofBits binary64
 
 -- "A calibration keeps gain and offset together as doubles: 0 < gain <= 1, -100 <= offset <= 100", by the comparisons of IEEE 754
 abbrev pub accepted : Calibration → Bool
@@ -56,3 +61,9 @@ reading o c = judgedVolts (verdict (readingChecks o c)) (voltsOf (standing o) c)
 -- the promise: of `read`
 abbrev pub ReadsVolts : List ℕ → Calibration → Volts → Type 0
 ReadsVolts o c r = r ≡ reading o c
+
+-- "Raw 10, gain 0.25, offset 0.5 is 3.0"
+abbrev pub RawTen : Type 0
+RawTen =
+    reading (0x11 ∷ 0 ∷ 10 ∷ []) (record { gain = double 0x3fd0_0000_0000_0000; offset = double 0x3fe0_0000_0000_0000 })
+    ≡ volts.FromRawCode (number 3)

@@ -7,7 +7,7 @@ use Rattle.recovery.specs.declared.Ticked.the-variants.{Reset}
 use Rattle.recovery.specs.Soundness.{sound}
 use Rattle.recovery.specs.Timer.{tickOf}
 use Rattle.recovery.specs.LatentErrors.{rebased}
-use Rattle.counters.proofs.Growth.{latent-stays}
+use Rattle.counters.proofs.Growth.{latent-resets-stay}
 use Rattle.recovery.proofs.SpanCalls.{quiet-tick, timeout-tick}
 
 abbrev pub Alike : State → State → Type 0
@@ -26,4 +26,4 @@ tick-alike s ok on =
 
 pub latent-alike : (s : State) → Alike s (rebased s)
 unfolding rebased
-latent-alike s = let same = latent-stays (s .counters) in (refl, refl, refl, refl, same .same-passed, same .same-lost)
+latent-alike s = let same = latent-resets-stay (s .counters) in (refl, refl, refl, refl, same .same-passed, same .same-lost)

@@ -23,7 +23,7 @@ use Rattle.recovery.specs.LatentErrors.{rebased, latentResetOf}
 use Rattle.rules.specs.NoNumber.{unnumbered}
 use Rattle.rules.specs.Places.{passes, after, lost}
 use Rattle.counters.specs.Growth.{Grown}
-use Rattle.counters.proofs.Growth.{counted-grows, grown-more}
+use Rattle.counters.proofs.Growth.{packets-grow, grown-more}
 use Rattle.setup.proofs.InRange.{in-range}
 use Rattle.recovery.proofs.SoundLaws.{Sound, sound-says}
 use Rattle.recovery.proofs.SoundCalls.{packet-answers, tick-answers, latent-reset-answers}
@@ -77,7 +77,7 @@ module _ (start : State) (rule : isVector (start .setup) ≡ true) where
     unfolding heard settled
     numbered-tracks number bits =
         let st : Obeys h ps number (numbered s number) = numbered-there number bits in
-        let grows = counted-grows (s .counters) 0 (numbered s number) in
+        let grows = packets-grow (s .counters) 0 (numbered s number) in
         let more : ℕ = cond (numbered s number .passes) 1 0 in
         let sum : length ps + more + tags ≡ length ps + tags + more = omega arith in
         rw (packet-answers s (track .still-sound) (Numbered number))
@@ -94,7 +94,7 @@ module _ (start : State) (rule : isVector (start .setup) ≡ true) where
     tagless-tracks =
         let effect = unnumbered (s .setup .taken) (s .newest) (s .marks) in
         let still = untouched (s .setup .taken) (s .newest) (s .marks) in
-        let grows = counted-grows (s .counters) 1 effect in
+        let grows = packets-grow (s .counters) 1 effect in
         let more : ℕ = cond (effect .passes) 1 0 in
         let if-taken : more ≡ cond (eqb (start .setup .taken) 1) 1 0 = rw (still .if-taken, track .same-setup) in
         let none : lost h ps + effect .lost ≡ lost h ps = rw (still .loses-none) (add-zero (lost h ps)) in

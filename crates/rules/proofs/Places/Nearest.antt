@@ -1,5 +1,6 @@
--- The place nearest the newest: it bears the number, and d of the vector rule leads from the newest place to it. Assumes nothing.
-use mathlib.Core.Path.{_≡_, refl, sym, _∙_}
+-- The place nearest the newest: it alone bears the number (`NearestAlone` of `specs/Places`), and d of the vector rule leads to it. Assumes
+-- nothing.
+use mathlib.Core.Path.{_≡_, refl, sym, ap, _∙_}
 use mathlib.Core.Bool.{true, false}
 use Prim.Native.Nat.{ℕ, _+_, _-_, _%_, _≤_, _<_}
 use native.Mathlib.Omega.{arith}
@@ -7,7 +8,7 @@ use mathlib.Core.Logic.{_≢_}
 use lib.Dec.{eqb, ltb}
 use borrow.Author.Tests.{eqb-true, eqb-false, ltb-true, ltb-false}
 use Rattle.octets.proofs.Bools.{by-cases}
-use Rattle.rules.specs.Places.{nearest}
+use Rattle.rules.specs.Places.{nearest, NearestAlone}
 use Rattle.rules.specs.Difference.{Difference, ahead, behind, apart, difference}
 use Rattle.rules.proofs.VectorLaws.{is-same, is-ahead, is-behind}
 
@@ -15,11 +16,11 @@ pub nearest-bears : (newest number : ℕ) → number < 65536 → nearest newest 
 unfolding nearest
 nearest-bears newest number h = omega arith
 
-pub nearest-low : (newest number : ℕ) → newest ≤ nearest newest number + 32768
+nearest-low : (newest number : ℕ) → newest ≤ nearest newest number + 32768
 unfolding nearest
 nearest-low newest number = omega arith
 
-pub nearest-high : (newest number : ℕ) → 32768 ≤ newest → nearest newest number < newest + 32768
+nearest-high : (newest number : ℕ) → 32768 ≤ newest → nearest newest number < newest + 32768
 unfolding nearest
 nearest-high newest number h = omega arith
 
@@ -27,14 +28,16 @@ nearest-high newest number h = omega arith
 one-in-turn : (low a b : ℕ) → low ≤ a → a < low + 65536 → low ≤ b → b < low + 65536 → a % 65536 ≡ b % 65536 → a ≡ b
 one-in-turn low a b la ha lb hb same = omega arith
 
--- and no other place from 32,768 below the newest to 32,767 above it bears that number: none is nearer
-pub nearest-only : (newest number p : ℕ) → 32768 ≤ newest → number < 65536
-    → newest ≤ p + 32768 → p < newest + 32768 → p % 65536 ≡ number → nearest newest number ≡ p
-nearest-only newest number p room bits low high bears =
-    let above = nearest-low newest number in
-    let below = nearest-high newest number room in
-    let same = nearest-bears newest number bits ∙ sym bears in
-    one-in-turn (newest - 32768) (nearest newest number) p (omega arith) (omega arith) (omega arith) (omega arith) same
+pub nearest-alone : NearestAlone
+nearest-alone newest number p room bits low high =
+    (λ is. sym (ap (λ (q : ℕ). q % 65536) is) ∙ nearest-bears newest number bits, only)
+  where
+    only : p % 65536 ≡ number → nearest newest number ≡ p
+    only bears =
+        let above = nearest-low newest number in
+        let below = nearest-high newest number room in
+        let same = nearest-bears newest number bits ∙ sym bears in
+        one-in-turn (newest - 32768) (nearest newest number) p (omega arith) (omega arith) (omega arith) (omega arith) same
 
 apart-turn : (newest number : ℕ) → apart newest number < 65536
 unfolding apart
@@ -72,7 +75,7 @@ leads newest number room bits =
     bears = apart-leads newest number bits
 
     at : (p : ℕ) → newest ≤ p + 32768 → p < newest + 32768 → p % 65536 ≡ number → nearest newest number ≡ p
-    at p low high there = nearest-only newest number p (omega arith) bits low high there
+    at p low high there = nearest-alone newest number p (omega arith) bits low high .1 there
 
     none : eqb far 0 ≡ true → nearest newest number + 0 ≡ newest
     none z =

@@ -1,19 +1,14 @@
--- The closing sum (demand 3, quoted in `specs/Places`): what every list of passed places keeps, and that the sum closes for it. Assumes
--- nothing.
+-- The sum closes (`SumCloses` of `specs/Places`), by what every list of passed places keeps. Assumes nothing.
 use mathlib.Core.Path.{_≡_, refl}
 use mathlib.Core.Bool.{false}
 use mathlib.Core.List.{List, [], _∷_}
 use Prim.Native.Nat.{ℕ, _+_, _-_, _≤_, _<_, max}
 use native.Mathlib.Omega.{arith}
-use lib.ListN.{length}
 use Rattle.octets.proofs.Bools.{either}
 use Rattle.rules.specs.Places.{among, newestPlace, firstPlace, place, passes, after, passed, unpassed}
-use Rattle.rules.specs.Places.{window, movedOn, lost, stillOpen}
+use Rattle.rules.specs.Places.{window, movedOn, lost, stillOpen, Closes, SumCloses}
 use Rattle.rules.proofs.Places.Passing.{passes-above, passes-new}
 use Rattle.rules.proofs.Places.Counting.{Held, held-wider, held-sum, unpassed-split}
-
-abbrev pub Closes : ℕ → List ℕ → Type 0
-Closes h ps = window h ps + movedOn ps ≡ length ps + lost h ps + stillOpen h ps
 
 -- passed places: the first at one turn or above, the newest at the first or above, and all of them, no one twice, in the range from the
 -- first window's last place to the newest
@@ -87,8 +82,8 @@ unfolding passed
 all-kept h [] hs room = tt
 all-kept h (number ∷ older) hs room = next-kept h (passed h older) number hs room (all-kept h older hs room)
 
-pub closes : (h : ℕ) (numbers : List ℕ) → 1 ≤ h → h ≤ 65536 → Closes h (passed h numbers)
-closes h numbers hs room = by (passed h numbers) (all-kept h numbers hs room)
+pub sum-closes : SumCloses
+sum-closes h numbers hs room = by (passed h numbers) (all-kept h numbers hs room)
   where
     by : (ps : List ℕ) → Kept-or-none h ps → Closes h ps
     by [] kept = none-closes h
