@@ -1,129 +1,228 @@
-/* A charge journal over two paths, from end to end. A head numbers its journal frames and puts the R-TAG in. One path brings every
- * frame; the other loses one, delays one and repeats one. The receiver looks the stream up, lets each number through once, takes the
- * tag off and walks the cards. tools/example compiles and runs this and compares what it prints with journal.out. */
-#include "ahozurime.h"
+/* A charge journal over two paths, from end to end. A head numbers its journal frames and puts the R-TAG in. Path A brings every frame;
+ * path B loses one, delays one and repeats one. A second stream brings charge reports, and of these path B brings none. The receiver looks
+ * each frame's stream up, lets each number through once, takes the tag off and walks the cards. Among the frames are one of each stream
+ * without a number, one of no stream and one that is cut. tools/c compiles and runs this, and compares what it prints with journal.out. */
+#include <ahozurime.h>
 
+#include <inttypes.h>
 #include <stdio.h>
 #include <string.h>
 
-enum { FRAMES = 5, LONGEST = 1522 };
+enum { JOURNAL, REPORTS, STREAMS }; /* the handles, each the place of its stream's state */
+enum { JOURNAL_FRAMES = 5, REPORT_FRAMES = 3 };
 
 typedef struct {
-    uint8_t octets[LONGEST];
+    uint8_t octets[AHZ_FRAME_LONGEST];
     size_t length;
 } Frame;
 
-/* One entry: frames to 02:00:00:00:00:07, any tag, any VLAN, are stream 7. */
-static const uint8_t table[] = {1, 0x02, 0, 0, 0, 0, 0x07, 3, 0, 0, 0, 7};
+/* Frames to 02:00:00:00:00:07 are the journal's; frames from 02:00:00:00:00:02 that have no VLAN are reports. */
+static const uint8_t table[] = {
+    AHZ_KIND_DESTINATION, 0x02, 0, 0, 0, 0, 0x07, AHZ_CHOICE_ALL,      0, AHZ_VLAN_ANY, 0, JOURNAL,
+    AHZ_KIND_SOURCE,      0x02, 0, 0, 0, 0, 0x02, AHZ_CHOICE_PRIORITY, 0, AHZ_VLAN_ANY, 0, REPORTS,
+};
 
-/* A call of this program that is refused is a mistake in the program: it says so and ends with 1. */
-static int refused(const char *call, unsigned answer) {
-    printf("%s refused: %u\n", call, answer);
+/* A refusal has a number and a sentence. Of a frame or card from the wire it is what the layer is for, and what was refused is dropped; of
+ * anything else it is a mistake in this program, which then ends with 1. */
+static int refused(const char *call, uint8_t answer) {
+    printf("%s refused: %u, %s\n", call, (unsigned)answer, ahz_refusal_sentence(answer));
     return 1;
+}
+
+static Frame frame_of(const uint8_t *head, size_t head_octets, const uint8_t *cards, size_t cards_octets) {
+    Frame frame;
+    memcpy(frame.octets, head, head_octets);
+    memcpy(frame.octets + head_octets, cards, cards_octets);
+    frame.length = head_octets + cards_octets;
+    return frame;
 }
 
 /* A journal frame: VLAN 5, three cards and an end. */
 static Frame journal(unsigned entry) {
     static const uint8_t head[] = {0x02, 0, 0, 0, 0, 0x07, 0x02, 0, 0, 0, 0, 0x01, 0x81, 0x00, 0x00, 0x05, 0x88, 0xB5};
-    const uint8_t cards[] = {0x10, 0, 0, 0, (uint8_t)(entry + 1), 0x11, 0, (uint8_t)(10 * (entry + 1)), 0x12, 0x0F, (uint8_t)(0xA0 + entry), 0x00};
-    Frame frame;
-    memset(frame.octets, 0, sizeof frame.octets);
-    memcpy(frame.octets, head, sizeof head);
-    memcpy(frame.octets + sizeof head, cards, sizeof cards);
-    frame.length = sizeof head + sizeof cards;
-    return frame;
+    const uint8_t cards[] = {AHZ_CARD_FLUSH_ORDER, 0, 0, 0, (uint8_t)(entry + 1), AHZ_CARD_RAW_CODE, 0, (uint8_t)(10 * (entry + 1)),
+                             AHZ_CARD_MILLIVOLTS, 0x0F, (uint8_t)(0xA0 + entry), AHZ_CARD_END};
+    return frame_of(head, sizeof head, cards, sizeof cards);
 }
 
+/* A report: no C-TAG, and one card, behind which the frame ends. */
+static Frame report(unsigned entry) {
+    static const uint8_t head[] = {0x02, 0, 0, 0, 0, 0x09, 0x02, 0, 0, 0, 0, 0x02, 0x88, 0xB5};
+    const uint8_t cards[] = {AHZ_CARD_MILLIVOLTS, 0x03, (uint8_t)(0xE8 + entry)};
+    return frame_of(head, sizeof head, cards, sizeof cards);
+}
+
+/* Puts the stream's next number into a frame: 0 where the program can go on. A generator is a type of its own, so that it is never sent
+ * as a number itself. */
+static int put_number(Frame *frame, ahz_generator_t *generator) {
+    const uint16_t number = ahz_generator_next(generator);
+    Frame sent;
+    const uint8_t answer = ahz_insert(frame->octets, frame->length, number, sent.octets, sizeof sent.octets, &sent.length);
+    if (answer != AHZ_DONE) return refused("ahz_insert", answer);
+    *frame = sent;
+    return 0;
+}
+
+/* Each card's number has its unit: a raw code that is taken for millivolts, or for blocks, does not compile. */
 static void walk(const uint8_t *payload, size_t octets) {
+    static const ahz_calibration_t calibration = {.gain = 0.25, .offset = 0.5};
     for (;;) {
-        uint32_t value = 0;
-        double volts = 0.0;
-        uint8_t card = ahz_card(payload, octets, &value);
-        uint8_t read = ahz_volts(payload, octets, 0.25, 0.5, &volts);
+        const ahz_card_t card = ahz_card_next(payload, octets);
+        ahz_volts_t volts;
+        const uint8_t reading = ahz_card_volts(payload, octets, calibration, &volts);
         size_t rest;
-        if (card == AHZ_END) {
+        if (card.answer == AHZ_END) {
             printf("    end\n");
             return;
         }
-        if (card < 100) {
-            printf("    refused: %u\n", (unsigned)card);
+        if (ahz_is_refusal(reading)) { /* 20 and 21, as the card's answer, or 22 */
+            printf("    ");
+            (void)refused("ahz_volts", reading);
             return;
         }
-        if (read == AHZ_FROM_RAW_CODE) {
-            printf("    raw code %lu: %.3f V\n", (unsigned long)value, volts);
-        } else if (read == AHZ_FROM_MILLIVOLTS) {
-            printf("    millivolts %lu: %.3f V\n", (unsigned long)value, volts);
-        } else {
-            printf("    flush order, %lu blocks\n", (unsigned long)value);
-        }
+        if (card.answer == AHZ_FLUSH_ORDER) printf("    flush order, blocks %" PRIu32 "\n", card.blocks.blocks);
+        if (card.answer == AHZ_RAW_CODE) printf("    raw code %u: %.3f V\n", (unsigned)card.raw_code.code, volts.volts);
+        if (card.answer == AHZ_MILLIVOLTS) printf("    millivolts %u: %.3f V\n", (unsigned)card.millivolts.mv, volts.volts);
         rest = ahz_rest_octets(payload, octets);
         payload += octets - rest;
         octets = rest;
     }
 }
 
-/* One arrival: 0 where the program can go on. */
-static int arrive(char path, const Frame *sent, const Frame *written, uint64_t *state) {
-    uint64_t header[AHZ_H_WORDS];
-    uint16_t handle = 0;
-    uint8_t bare[LONGEST];
-    size_t length = 0;
-    uint8_t verdict;
-    uint8_t answer = ahz_read(sent->octets, sent->length, header, AHZ_H_WORDS);
-    if (answer != AHZ_DONE) return refused("ahz_read", answer);
-    answer = ahz_lookup(table, sizeof table, sent->octets, sent->length, &handle);
+/* One frame from the wire: 0 where the program can go on. */
+static int arrive(char path, const Frame *frame, ahz_state_t *states) {
+    ahz_header_t header;
+    Frame bare;
+    uint16_t handle = STREAMS, number = 0;
+    uint8_t answer, verdict;
+    size_t payload;
+    int numbered;
+
+    printf("path %c, ", path);
+    answer = ahz_header_read(&header, frame->octets, frame->length);
+    if (answer != AHZ_DONE) {
+        (void)refused("ahz_read", answer);
+        return 0;
+    }
+    answer = ahz_lookup(table, sizeof table, frame->octets, frame->length, &handle);
+    if (answer == AHZ_NO_STREAM) {
+        printf("no stream\n");
+        return 0;
+    }
     if (answer != AHZ_STREAM) return refused("ahz_lookup", answer);
-    verdict = ahz_numbered(state, AHZ_S_WORDS, (uint16_t)header[AHZ_H_NUMBER]);
-    if (verdict < 100) return refused("ahz_numbered", verdict);
-    printf("path %c, VLAN %u, stream %u, number %u: %s\n", path, (unsigned)header[AHZ_H_VLAN], (unsigned)handle,
-           (unsigned)header[AHZ_H_NUMBER], verdict == AHZ_PASS ? "pass" : "discard");
-    if (verdict == AHZ_DISCARD) return 0;
-    answer = ahz_remove(sent->octets, sent->length, bare, sizeof bare, &length);
-    if (answer != AHZ_DONE) return refused("ahz_remove", answer);
-    if (length != written->length || memcmp(bare, written->octets, length) != 0) {
-        printf("the frame is not the one that was sent\n");
+    if (handle >= STREAMS) {
+        printf("handle %u is not one of the streams: the table is wrong\n", (unsigned)handle);
         return 1;
     }
-    length = ahz_payload(sent->octets, sent->length);
-    walk(sent->octets + sent->length - length, length);
+
+    /* The handle picks the state. The header says whether there is a number to be heard: a frame without one is not number 0. */
+    numbered = ahz_header_numbered(&header, &number);
+    if (numbered) {
+        printf("stream %u, number %u: ", (unsigned)handle, (unsigned)number);
+        verdict = ahz_state_numbered(&states[handle], number);
+    } else {
+        printf("stream %u, no number: ", (unsigned)handle);
+        verdict = ahz_state_tagless(&states[handle]);
+    }
+    if (ahz_is_refusal(verdict)) return refused("the state", verdict);
+    if (verdict == AHZ_DISCARD) {
+        printf("discard\n");
+        return 0;
+    }
+    if (numbered) {
+        answer = ahz_remove(frame->octets, frame->length, bare.octets, sizeof bare.octets, &bare.length);
+        if (answer != AHZ_DONE) return refused("ahz_remove", answer);
+    } else {
+        bare = *frame;
+    }
+    payload = ahz_payload(bare.octets, bare.length);
+    printf("pass, %u octets\n", (unsigned)bare.length);
+    walk(bare.octets + bare.length - payload, payload);
     return 0;
 }
 
+/* The latent test has three answers: no error, an error, and a refusal, which says nothing of the paths. */
+static int test_paths(const ahz_state_t *state) {
+    const uint8_t answer = ahz_state_latent_test(state);
+    if (ahz_is_refusal(answer)) return refused("ahz_latent_test", answer);
+    printf("  latent test: %s\n", answer == AHZ_LATENT_OK ? "ok" : "error: a path is silent, or brings too much");
+    return 0;
+}
+
+/* Silence: the reset comes with the last tick that is left, so after the full ticks of the timeout at the latest. */
+static int wait_for_reset(ahz_state_t *state) {
+    const ahz_setup_t setup = ahz_state_setup(state);
+    const ahz_ticks_t full = ahz_full_ticks(setup.timeout, setup.rate);
+    uint64_t tick;
+    for (tick = 1; tick <= full.ticks; tick++) {
+        const uint8_t answer = ahz_state_tick(state);
+        if (ahz_is_refusal(answer)) return refused("ahz_tick", answer);
+        if (answer == AHZ_RESET) {
+            printf("  %" PRIu32 " ms of silence: reset with tick %" PRIu64 "\n", setup.timeout.ms, tick);
+            return 0;
+        }
+    }
+    printf("  no reset: the timer stands, since no packet has passed\n");
+    return 0;
+}
+
+/* Lost counts places of the window, and not frames: each place that left it before a packet passed there. At the first packet the places
+ * before its number are open, history - 1 of them, and they leave as the window moves on. So a run that missed nothing counts lost too. */
+static void print_counters(const ahz_state_t *state) {
+    const ahz_counters_t n = ahz_state_counters(state);
+    printf("  passed=%" PRIu64 " discarded=%" PRIu64 " order=%" PRIu64 " rogue=%" PRIu64, n.passed, n.discarded, n.order, n.rogue);
+    printf(" lost=%" PRIu64 " tagless=%" PRIu64 " resets=%" PRIu64 " latent-resets=%" PRIu64 "\n", n.lost, n.tagless, n.resets,
+           n.latent_resets);
+}
+
+/* The setups, constants as the table is. */
+static const ahz_setup_t setups[STREAMS] = {
+    {.rule = AHZ_RULE_VECTOR, .taken = AHZ_NOT_TAKEN, .history = 8, .timeout = AHZ_MS(100), .rate = AHZ_PER_SECOND(100), .paths = 2,
+     .difference = 2},
+    {.rule = AHZ_RULE_MATCH, .taken = AHZ_TAKEN, .history = 8, .timeout = AHZ_MS(25), .rate = AHZ_PER_SECOND(100), .paths = 2,
+     .difference = 2},
+};
+
 int main(void) {
-    /* B loses the second frame, delays the third behind the fourth, and repeats the first. */
-    static const struct {
+    ahz_state_t states[STREAMS];
+    Frame j[JOURNAL_FRAMES], r[REPORT_FRAMES];
+    Frame no_number = journal(9), no_number_either = report(9), stranger = journal(9), cut = journal(9);
+    const struct {
         char path;
-        unsigned frame;
-    } arrivals[] = {{'B', 0}, {'B', 0}, {'A', 0}, {'A', 1}, {'B', 3}, {'B', 2}, {'A', 2}, {'A', 3}, {'B', 4}, {'A', 4}};
-    Frame written[FRAMES], sent[FRAMES];
-    uint64_t state[AHZ_S_WORDS] = {0};
-    uint16_t generator = ahz_generator();
+        const Frame *frame;
+    } arrivals[] = {{'B', &j[0]}, {'B', &j[0]},      {'A', &j[0]}, {'A', &j[1]}, {'B', &j[3]},     {'A', &r[0]},
+                    {'B', &j[2]}, {'A', &no_number}, {'A', &j[2]}, {'A', &r[1]}, {'B', &stranger}, {'A', &j[3]},
+                    {'B', &j[4]}, {'A', &j[4]},      {'B', &cut},  {'A', &r[2]}, {'A', &no_number_either}};
+    ahz_generator_t journal_generator = ahz_generator_fresh(), report_generator = ahz_generator_fresh();
     unsigned i;
-    uint8_t answer;
 
-    for (i = 0; i < FRAMES; i++) {
-        written[i] = journal(i);
-        memset(sent[i].octets, 0, sizeof sent[i].octets);
-        answer = ahz_insert(written[i].octets, written[i].length, ahz_generate(&generator), sent[i].octets, sizeof sent[i].octets,
-                            &sent[i].length);
-        if (answer != AHZ_DONE) return refused("ahz_insert", answer);
+    if (!ahz_version_fits()) {
+        printf("the archive is not one for version %d.%d\n", AHZ_VERSION_MAJOR, AHZ_VERSION_MINOR);
+        return 1;
     }
-    printf("%d journal frames of %lu octets, sent with %lu\n", FRAMES, (unsigned long)written[0].length, (unsigned long)sent[0].length);
+    for (i = 0; i < STREAMS; i++) {
+        const uint8_t answer = ahz_state_fresh(&states[i], setups[i]);
+        if (answer != AHZ_DONE) return refused("ahz_fresh", answer);
+    }
+    for (i = 0; i < JOURNAL_FRAMES; i++) {
+        j[i] = journal(i);
+        if (put_number(&j[i], &journal_generator) != 0) return 1;
+    }
+    for (i = 0; i < REPORT_FRAMES; i++) {
+        r[i] = report(i);
+        if (put_number(&r[i], &report_generator) != 0) return 1;
+    }
+    stranger.octets[5] = 0x08; /* the last octet of its destination */
+    cut.length = AHZ_FRAME_SHORTEST - 1;
 
-    /* Vector, no packet without a number, history 8, 100 ms at 100 ticks a second, two paths, difference 2. */
-    answer = ahz_fresh(0, 0, 8, 100, 100, 2, 2, state, AHZ_S_WORDS);
-    if (answer != AHZ_DONE) return refused("ahz_fresh", answer);
     for (i = 0; i < sizeof arrivals / sizeof arrivals[0]; i++) {
-        const unsigned frame = arrivals[i].frame;
-        if (arrive(arrivals[i].path, &sent[frame], &written[frame], state) != 0) return 1;
+        if (arrive(arrivals[i].path, arrivals[i].frame, states) != 0) return 1;
     }
-
-    printf("latent test: %s\n", ahz_latent_test(state, AHZ_S_WORDS) == AHZ_LATENT_OK ? "ok" : "error");
-    for (i = 1; ahz_tick(state, AHZ_S_WORDS) == AHZ_TICK; i++) {
+    for (i = 0; i < STREAMS; i++) {
+        printf("stream %u\n", i);
+        if (test_paths(&states[i]) != 0 || wait_for_reset(&states[i]) != 0) return 1;
+        print_counters(&states[i]);
     }
-    printf("silence: reset after %u ticks\n", i);
-    printf("passed=%lu discarded=%lu order=%lu rogue=%lu lost=%lu resets=%lu\n", (unsigned long)state[AHZ_S_PASSED],
-           (unsigned long)state[AHZ_S_DISCARDED], (unsigned long)state[AHZ_S_ORDER], (unsigned long)state[AHZ_S_ROGUE],
-           (unsigned long)state[AHZ_S_LOST], (unsigned long)state[AHZ_S_RESETS]);
+    printf("lost counts places that left the window, here those before number 0: no frame of the journal is missing\n");
     return 0;
 }

@@ -1,18 +1,40 @@
-/* Ahozurime: the proved link layer, for C and C++.
+/* Ahozurime: the proved link layer, for C (C99 and later) and C++ (C++11 and later).
  *
- * Link target/archive/TARGET/libahozurime.a, which tools/archive makes. The refusals' numbers are those of the scope paper, "When the layer says
- * no".
+ * Link libahozurime.a, which tools/archive makes for x86_64 and for aarch64, and which `make install` puts in place with this header. The
+ * refusals' numbers are those of the scope paper, "When the layer says no".
  *
  * Answers. Every call that can refuse answers one number:
  *   0            done
  *   1 to 99      refused: the paper's number, AHZ_R_..; nothing behind any pointer has changed
  *   100 and up   a named answer of that call, AHZ_..
+ * An answer that a program does not look at is warned about where the compiler can: see AHZ_USE_ANSWER.
  *
  * Lent memory. A pointer and the length after it are a lent buffer: so many octets (or 64-bit words) must be readable there, and
  * writable where the pointer is not const. A pointer without a length is one number. What a call writes must not overlap anything else
- * that is lent to it. No pointer is null unless its length is 0. Nothing is kept after a call returns, and no call allocates.
+ * that is lent to it: where it does, what happens is undefined. What is only read may overlap. No pointer is null unless its length is 0.
+ * Words and single numbers are aligned as their types ask. Octets lie at any address; since the code reads and writes several of them at
+ * once, they lie in memory that allows this: with no check of alignment switched on, and on Arm not in device memory.
+ * Nothing else is asked: whatever numbers, octets and words are handed in, a call ends with an answer or a refusal.
  *
  * Calls that hand back a part of a buffer answer how many octets the part has; 0 on a refusal or end. The call beside it has the verdict.
+ *
+ * Between calls. The archive has no variables: nothing is kept after a call returns, no call allocates, and none calls back. So calls may
+ * run in several threads at once, and in an interrupt that breaks into another call, on memory of their own: what one of them writes
+ * must not be lent to another meanwhile.
+ *
+ * From outside the archive needs memcpy and memset, and nothing else. Only ahz_tape uses them.
+ *
+ * Stack. A call takes at most AHZ_STACK octets, and ahz_tape at most AHZ_TAPE_STACK; tests/c/stack.c holds both targets to it. In this
+ * version ahz_tape takes 54,160 octets on aarch64 and 54,040 on x86_64, and no other call more than 48 and 154. What memcpy and memset take
+ * comes on top, and what the dynamic linker takes where it looks these two up at their first call. On x86_64 the code also writes below
+ * its stack pointer, into the red zone of the System V convention.
+ *
+ * Floating point. Only ahz_volts computes with doubles. It assumes that they are rounded to nearest, that subnormal numbers are not taken
+ * for zero, and that no floating-point exception traps; it may raise their flags. Its doubles are handed over in floating-point registers,
+ * as the usual conventions of both targets have it.
+ *
+ * Instructions. The code is for any x86-64, of which SSE2 is a part, and for Armv8-A with floating point and Advanced SIMD. Calls move
+ * octets and words in vector registers too: these must be usable.
  */
 #ifndef AHOZURIME_H
 #define AHOZURIME_H
@@ -20,12 +42,40 @@
 #include <stddef.h>
 #include <stdint.h>
 
+/* The version of this header. MAJOR goes up where a program written for the older header could go wrong: a call, a number, a field or a
+ * meaning is changed or gone, the words of a state among them; MINOR is then 0 again. MINOR goes up where something is only added. So an
+ * archive fits a program where its MAJOR is that of the program's header and its MINOR is not less: ahz_version_fits. */
+#define AHZ_VERSION_MAJOR 1
+#define AHZ_VERSION_MINOR 0
+#define AHZ_VERSION (AHZ_VERSION_MAJOR * 65536u + AHZ_VERSION_MINOR)
+
+/* Octets of stack that are enough for ahz_tape, and for every other call. */
+#define AHZ_TAPE_STACK 54784
+#define AHZ_STACK 256
+
+/* Before each call and typed form that has an answer: a program that does not look at it is warned. With GCC before C23 and C++17 a cast to
+ * void does not silence the warning. A program that wants none defines AHZ_USE_ANSWER as nothing before it includes this header. */
+#ifndef AHZ_USE_ANSWER
+#if defined(__cplusplus) && __cplusplus >= 201703L
+#define AHZ_USE_ANSWER [[nodiscard]]
+#elif !defined(__cplusplus) && defined(__STDC_VERSION__) && __STDC_VERSION__ > 201710L
+#define AHZ_USE_ANSWER [[nodiscard]]
+#elif defined(__GNUC__)
+#define AHZ_USE_ANSWER __attribute__((warn_unused_result))
+#else
+#define AHZ_USE_ANSWER
+#endif
+#endif
+
 #ifdef __cplusplus
 extern "C" {
 #endif
 
-/* The refusals. */
+/* The answers, and the faults of a tape, which stand in its output as `fault N` and are never an answer. */
 enum {
+    AHZ_DONE = 0,
+
+    /* The refusals. */
     AHZ_R_FRAME_SHORT = 1,     /* a frame under 14 octets */
     AHZ_R_FRAME_LONG = 2,      /* a frame over 1,522 octets */
     AHZ_R_TAG_CUT = 3,         /* the octets end before the type after a tag */
@@ -39,7 +89,7 @@ enum {
     AHZ_R_ENTRY_CUT = 11,      /* table: the octets end inside an entry */
     AHZ_R_ENTRY_RANGE = 12,    /* table: an entry's choice or VLAN is out of range */
     AHZ_R_ENTRY_257 = 13,      /* table: a 257th entry */
-    AHZ_R_STATE = 14,          /* the words hold no state, or one that is not sound */
+    AHZ_R_STATE = 14,          /* the words hold no state of this format, or one that is not sound */
     AHZ_R_RULE = 15,           /* setup: rule not 0 or 1 */
     AHZ_R_HISTORY = 16,        /* setup: history length not 2 to 64 */
     AHZ_R_MILLISECONDS = 17,   /* setup: timeout not 1 to 3,600,000 ms */
@@ -48,12 +98,16 @@ enum {
     AHZ_R_CARD_KIND = 20,      /* a card of no known kind */
     AHZ_R_CARD_CUT = 21,       /* the octets end inside a card */
     AHZ_R_CALIBRATION = 22,    /* not 0 < gain <= 1 or not -100 <= offset <= 100, a NaN among them */
-    AHZ_R_TAKEN = 27           /* setup: taken flag not 0 or 1 */
-};
+    AHZ_R_TAKEN = 27,          /* setup: taken flag not 0 or 1 */
 
-/* The named answers. */
-enum {
-    AHZ_DONE = 0,
+    /* The faults of a tape. */
+    AHZ_FAULT_KIND = 23,       /* an event of no known kind */
+    AHZ_FAULT_CUT = 24,        /* the octets end inside an event */
+    AHZ_FAULT_SETUP = 25,      /* the setup is missing or repeated */
+    AHZ_FAULT_LONG = 26,       /* the tape is over 4,096 octets */
+
+    /* The named answers. */
+    AHZ_NAMED = 100,           /* an answer from here on is a named one, and one from 1 on below it a refusal */
     AHZ_FLUSH_ORDER = 100,     /* ahz_card: value is the blocks asked */
     AHZ_RAW_CODE = 101,        /* ahz_card: value is the raw code */
     AHZ_MILLIVOLTS = 102,      /* ahz_card: value is the millivolts */
@@ -71,7 +125,22 @@ enum {
     AHZ_LATENT_ERROR = 114     /* ahz_latent_test: error */
 };
 
-/* ---- Frames: 14 to 1,522 octets without frame check sequence ---- */
+/* The version of the archive that is linked, as AHZ_VERSION is written. */
+AHZ_USE_ANSWER uint32_t ahz_version(void);
+
+/* ---- Frames: destination 6, source 6, an optional C-TAG, an optional R-TAG, a type of 2, the payload; no frame check sequence ---- */
+
+/* All numbers in octets are big-endian. A C-TAG is 81 00 and 16 bits, the VLAN id in the low 12. An R-TAG is F1 C1, two reserved octets,
+ * written zero and ignored on reading, and a number of 16 bits. */
+enum {
+    AHZ_FRAME_SHORTEST = 14,
+    AHZ_FRAME_LONGEST = 1522,
+    AHZ_CTAG_OCTETS = 4,
+    AHZ_RTAG_OCTETS = 6,
+    AHZ_TYPE_CTAG = 0x8100,
+    AHZ_TYPE_RTAG = 0xF1C1,
+    AHZ_VLAN_LAST = 4094       /* 4,095 is refused, in a frame and in a table */
+};
 
 /* The words of a header. An address is its six octets as one big-endian number. */
 enum {
@@ -80,142 +149,559 @@ enum {
     AHZ_H_TAGGED = 2,          /* 1 with a C-TAG, else 0 */
     AHZ_H_VLAN = 3,            /* the VLAN id, 0 without a C-TAG */
     AHZ_H_NUMBERED = 4,        /* 1 with an R-TAG, else 0 */
-    AHZ_H_NUMBER = 5,          /* its number, 0 without an R-TAG */
+    AHZ_H_NUMBER = 5,          /* its number, 0 without an R-TAG: look at AHZ_H_NUMBERED first */
     AHZ_H_TYPE = 6,            /* the last type */
     AHZ_H_PAYLOAD = 7,         /* where the payload starts; it goes to the end of the frame */
     AHZ_H_WORDS = 8
 };
 
-/* Reads a frame and writes AHZ_H_WORDS words to the start of header; later words of it stay.
+/* Reads a frame and writes AHZ_H_WORDS words to the start of header; later words of it stay. Answers 0.
  * Refusals, in this order: 1, 2, at a C-TAG 3, 5, 4, at an R-TAG 3, 4; then 8 where header has fewer than AHZ_H_WORDS words. */
-uint8_t ahz_read(const uint8_t *frame, size_t frame_octets, uint64_t *header, size_t header_words);
+AHZ_USE_ANSWER uint8_t ahz_read(const uint8_t *frame, size_t frame_octets, uint64_t *header, size_t header_words);
 
-/* How many octets the payload has: the last ones of the frame. 0 where ahz_read refuses the frame. */
-size_t ahz_payload(const uint8_t *frame, size_t frame_octets);
+/* How many octets the payload has: the last ones of the frame. 0 where ahz_read refuses the frame, and where its payload is empty. */
+AHZ_USE_ANSWER size_t ahz_payload(const uint8_t *frame, size_t frame_octets);
 
-/* Writes the frame with an R-TAG of that number to out, its octets after a C-TAG if there is one, and the result's length to length.
- * Later octets of out stay. out must have room for the result, frame_octets + 6.
+/* Writes the frame with an R-TAG of that number to out, its octets after a C-TAG if there is one, else after the source address, and the
+ * result's length to length. Later octets of out stay. Answers 0. out must have room for the result, frame_octets + AHZ_RTAG_OCTETS.
  * Refusals, in this order: 1 to 5 as ahz_read; 6 the frame has an R-TAG; 7 the result is over 1,522; 8 out is shorter than it. */
-uint8_t ahz_insert(const uint8_t *frame, size_t frame_octets, uint16_t number, uint8_t *out, size_t out_octets, size_t *length);
+AHZ_USE_ANSWER uint8_t ahz_insert(const uint8_t *frame, size_t frame_octets, uint16_t number, uint8_t *out, size_t out_octets,
+                                  size_t *length);
 
-/* Writes the frame without its R-TAG to out, and the result's length, frame_octets - 6, to length. Later octets of out stay.
- * Refusals, in this order: 1 to 5 as ahz_read; 9 the frame has no R-TAG; 8 out is shorter than the result. */
-uint8_t ahz_remove(const uint8_t *frame, size_t frame_octets, uint8_t *out, size_t out_octets, size_t *length);
+/* Writes the frame without its R-TAG to out, and the result's length, frame_octets - AHZ_RTAG_OCTETS, to length. Later octets of out stay.
+ * Answers 0. Refusals, in this order: 1 to 5 as ahz_read; 9 the frame has no R-TAG; 8 out is shorter than the result. */
+AHZ_USE_ANSWER uint8_t ahz_remove(const uint8_t *frame, size_t frame_octets, uint8_t *out, size_t out_octets, size_t *length);
 
 /* ---- Stream tables: entries of 12 octets, kind 1 or 2, address 6, choice 1, VLAN 2, handle 2 ---- */
 
+/* An entry matches a frame where its address is the frame's destination (kind 1) or source (kind 2), its choice allows the frame, and its
+ * VLAN is 0 or the frame's. A frame without a C-TAG has VLAN id 0. The handle is any number of 16 bits. */
+enum {
+    AHZ_KIND_DESTINATION = 1,  /* the standard's Null stream identification */
+    AHZ_KIND_SOURCE = 2,
+    AHZ_CHOICE_TAGGED = 1,     /* a frame with a C-TAG */
+    AHZ_CHOICE_PRIORITY = 2,   /* a frame without one, or with VLAN id 0 */
+    AHZ_CHOICE_ALL = 3,        /* any frame */
+    AHZ_VLAN_ANY = 0,
+    AHZ_ENTRY_OCTETS = 12,
+    AHZ_TABLE_ENTRIES = 256,   /* at most */
+    AHZ_TABLE_LONGEST = 3072   /* octets of so many entries */
+};
+
 /* Checks a table. An empty one is good (0).
  * Refusals, entry by entry, each in this order: 13 it is the 257th; 10 its kind; 11 it is cut; 12 its choice or VLAN. */
-uint8_t ahz_check_table(const uint8_t *table, size_t table_octets);
+AHZ_USE_ANSWER uint8_t ahz_check_table(const uint8_t *table, size_t table_octets);
 
 /* Looks the frame's stream up. AHZ_STREAM: the first match's handle is in handle. AHZ_NO_STREAM: none matches, handle stays.
  * Refusals: first the table's, as ahz_check_table; then the frame's, 1 to 5 as ahz_read. */
-uint8_t ahz_lookup(const uint8_t *table, size_t table_octets, const uint8_t *frame, size_t frame_octets, uint16_t *handle);
+AHZ_USE_ANSWER uint8_t ahz_lookup(const uint8_t *table, size_t table_octets, const uint8_t *frame, size_t frame_octets, uint16_t *handle);
 
 /* ---- Numbering ---- */
 
 /* A generator is its next number. A fresh one: 0. */
-uint16_t ahz_generator(void);
+AHZ_USE_ANSWER uint16_t ahz_generator(void);
 
 /* Answers the generator's number; the generator goes on to the next, 65,535 going to 0. Refuses nothing. */
-uint16_t ahz_generate(uint16_t *generator);
+AHZ_USE_ANSWER uint16_t ahz_generate(uint16_t *generator);
 
 /* Sets the generator back to 0. Refuses nothing. */
 void ahz_generator_reset(uint16_t *generator);
 
 /* ---- Recovery ---- */
 
-/* Full ticks of a timeout: milliseconds x rate / 1000, rounded up. Any two numbers have an answer. */
-uint64_t ahz_ticks(uint32_t milliseconds, uint16_t rate);
-
-/* Checks a setup: rule 0 vector or 1 match; taken 1 where packets without a number are taken, else 0; history 2 to 64;
- * milliseconds 1 to 3,600,000; rate, ticks per second, 1 to 10,000; paths 2 to 8; difference, the latent difference, any.
- * Refusals, in this order: 15, 27, 16, 17, 18, 19. */
-uint8_t ahz_check_setup(uint8_t rule, uint8_t taken, uint16_t history, uint32_t milliseconds, uint16_t rate, uint8_t paths,
-                        uint32_t difference);
-
-/* The words of a state. A state that a call wrote may be kept, copied or stored by its words. */
+/* The numbers of a setup, each with its range. */
 enum {
-    AHZ_S_RULE = 0,            /* below 2^8 */
-    AHZ_S_TAKEN = 1,           /* below 2^8 */
-    AHZ_S_HISTORY = 2,         /* below 2^16 */
-    AHZ_S_MILLISECONDS = 3,    /* below 2^32 */
-    AHZ_S_RATE = 4,            /* below 2^16 */
-    AHZ_S_PATHS = 5,           /* below 2^8 */
-    AHZ_S_DIFFERENCE = 6,      /* below 2^32 */
-    AHZ_S_NEWEST = 7,          /* the newest number, below 2^16 */
-    AHZ_S_MARKS = 8,           /* bit k is mark k; mark 0 is the newest */
-    AHZ_S_TAKE_ANY = 9,        /* 0 or 1 */
-    AHZ_S_LEFT = 10,           /* ticks left */
-    AHZ_S_PASSED = 11,         /* the eight counters; they wrap */
-    AHZ_S_DISCARDED = 12,
-    AHZ_S_ORDER = 13,
-    AHZ_S_ROGUE = 14,
-    AHZ_S_LOST = 15,
-    AHZ_S_TAGLESS = 16,
-    AHZ_S_RESETS = 17,
-    AHZ_S_LATENT_RESETS = 18,
-    AHZ_S_BASE = 19,           /* the latent base, modulo 2^64 */
-    AHZ_S_WORDS = 20
+    AHZ_RULE_VECTOR = 0,
+    AHZ_RULE_MATCH = 1,
+    AHZ_NOT_TAKEN = 0,         /* packets without a number are discarded */
+    AHZ_TAKEN = 1,             /* they pass */
+    AHZ_HISTORY_LEAST = 2,
+    AHZ_HISTORY_MOST = 64,
+    AHZ_MILLISECONDS_LEAST = 1,
+    AHZ_MILLISECONDS_MOST = 3600000,
+    AHZ_RATE_LEAST = 1,
+    AHZ_RATE_MOST = 10000,
+    AHZ_PATHS_LEAST = 2,
+    AHZ_PATHS_MOST = 8
 };
 
-/* Writes a fresh state of that setup to state.
- * Refusals, in this order: 15, 27, 16, 17, 18, 19 as ahz_check_setup; 14 where state_words is not AHZ_S_WORDS. */
-uint8_t ahz_fresh(uint8_t rule, uint8_t taken, uint16_t history, uint32_t milliseconds, uint16_t rate, uint8_t paths, uint32_t difference,
-                  uint64_t *state, size_t state_words);
+/* Full ticks of a timeout: milliseconds x rate / 1000, rounded up. Any two numbers have an answer. */
+AHZ_USE_ANSWER uint64_t ahz_ticks(uint32_t milliseconds, uint16_t rate);
 
-/* Each of these refuses by 14 alone: state_words is not AHZ_S_WORDS, a word is one that its field cannot hold, or the state is not
- * sound (setup in range; marks at the history length and above clear; take-any means newest 65,535 and no mark; otherwise ticks left
- * are 1 or more, and mark 0 is set under vector; match has no mark; ticks left are not above full ticks). The words afterwards are the
- * next state. */
+/* Checks a setup: rule 0 vector or 1 match; taken 1 where packets without a number are taken, else 0; history 2 to 64;
+ * milliseconds 1 to 3,600,000; rate, ticks per second, 1 to 10,000; paths 2 to 8; difference, the latent difference, any. A good one: 0.
+ * Refusals, in this order: 15, 27, 16, 17, 18, 19. */
+AHZ_USE_ANSWER uint8_t ahz_check_setup(uint8_t rule, uint8_t taken, uint16_t history, uint32_t milliseconds, uint16_t rate, uint8_t paths,
+                                       uint32_t difference);
 
-/* A packet with a number: AHZ_PASS or AHZ_DISCARD. */
-uint8_t ahz_numbered(uint64_t *state, size_t state_words, uint16_t number);
+/* The first word of a state: "AHZ", and 1. It changes whenever the words of a state or their meaning change, so that a state that another
+ * version stored, or a machine of the other byte order, is refused (14) and never misread. */
+#define AHZ_STATE_FORMAT 0x41485A01
 
-/* A packet without one: AHZ_PASS or AHZ_DISCARD. */
-uint8_t ahz_tagless(uint64_t *state, size_t state_words);
+/* The words of a state. A state that a call wrote may be kept, copied or stored by its words. It is the first AHZ_S_WORDS words of what is
+ * lent; later ones are neither looked at nor changed. To check words that were stored, call ahz_latent_test: it changes nothing and refuses
+ * what is no sound state of this format. Sound words are not therefore those that were stored: a bit that changed in a counter is not seen.
+ * Store a check of your own beside them. */
+enum {
+    AHZ_S_FORMAT = 0,          /* AHZ_STATE_FORMAT */
+    AHZ_S_RULE = 1,            /* below 2^8 */
+    AHZ_S_TAKEN = 2,           /* below 2^8 */
+    AHZ_S_HISTORY = 3,         /* below 2^16 */
+    AHZ_S_MILLISECONDS = 4,    /* below 2^32 */
+    AHZ_S_RATE = 5,            /* below 2^16 */
+    AHZ_S_PATHS = 6,           /* below 2^8 */
+    AHZ_S_DIFFERENCE = 7,      /* below 2^32 */
+    AHZ_S_NEWEST = 8,          /* the newest number, below 2^16 */
+    AHZ_S_MARKS = 9,           /* bit k is mark k: the number k below the newest has passed; mark 0 is the newest */
+    AHZ_S_TAKE_ANY = 10,       /* 0 or 1 */
+    AHZ_S_LEFT = 11,           /* ticks left */
+    AHZ_S_PASSED = 12,         /* the eight counters; they wrap */
+    AHZ_S_DISCARDED = 13,
+    AHZ_S_ORDER = 14,
+    AHZ_S_ROGUE = 15,
+    AHZ_S_LOST = 16,
+    AHZ_S_TAGLESS = 17,
+    AHZ_S_RESETS = 18,
+    AHZ_S_LATENT_RESETS = 19,
+    AHZ_S_BASE = 20,           /* the latent base, modulo 2^64 */
+    AHZ_S_WORDS = 21
+};
 
-/* A tick: AHZ_TICK, or AHZ_RESET where it timed out. */
-uint8_t ahz_tick(uint64_t *state, size_t state_words);
+/* Writes a fresh state of that setup to the first AHZ_S_WORDS words of state; later ones stay. Answers 0. Fresh: newest 65,535, no mark,
+ * take-any, no ticks left, counters and base 0.
+ * Refusals, in this order: 15, 27, 16, 17, 18, 19 as ahz_check_setup; 8 where state_words is less than AHZ_S_WORDS. */
+AHZ_USE_ANSWER uint8_t ahz_fresh(uint8_t rule, uint8_t taken, uint16_t history, uint32_t milliseconds, uint16_t rate, uint8_t paths,
+                                 uint32_t difference, uint64_t *state, size_t state_words);
 
-/* A reset: 0. */
-uint8_t ahz_reset(uint64_t *state, size_t state_words);
+/* Each of these refuses by 14 alone: state_words is less than AHZ_S_WORDS, the first word is not AHZ_STATE_FORMAT, a word is one that its
+ * field cannot hold, or the state is not sound (setup in range; marks at the history length and above clear; take-any means newest 65,535
+ * and no mark; otherwise ticks left are 1 or more, and mark 0 is set under vector; match has no mark; ticks left are not above full ticks).
+ * The words afterwards are the next state. A program that hands in only states that a call wrote never sees 14. */
 
-/* A latent reset: 0. */
-uint8_t ahz_latent_reset(uint64_t *state, size_t state_words);
+/* A packet with a number: AHZ_PASS, and passed +1, or AHZ_DISCARD, and discarded +1. One that passes sets ticks left to full ticks.
+ * Take-any: it passes and is the newest, with mark 0 under vector; take-any is off.
+ * Otherwise d is its number less the newest modulo 65,536, read from -32,768 to 32,767. Under vector, with history length H:
+ *   d >= H or d <= -H: rogue +1, discarded;
+ *   d <= 0: discarded where mark -d is set; else that mark is set, order +1, passed;
+ *   d > 0: order +1 unless d is 1; the marks move d places, and lost +1 for each clear one that leaves the window; it is the newest, with
+ *     mark 0, passed.
+ * Under match: discarded where d is 0; else order +1 unless d is 1, it is the newest, passed. */
+AHZ_USE_ANSWER uint8_t ahz_numbered(uint64_t *state, size_t state_words, uint16_t number);
 
-/* The latent error test, which changes nothing: AHZ_LATENT_OK or AHZ_LATENT_ERROR. */
-uint8_t ahz_latent_test(const uint64_t *state, size_t state_words);
+/* A packet without one: tagless +1. Where such are taken AHZ_PASS, passed +1, and ticks left are full ticks; else AHZ_DISCARD, and
+ * discarded +1. */
+AHZ_USE_ANSWER uint8_t ahz_tagless(uint64_t *state, size_t state_words);
 
-/* ---- Charge cards ---- */
+/* A tick: AHZ_TICK, with one tick less left, or still none; or AHZ_RESET where it was the last one left, and a reset followed. */
+AHZ_USE_ANSWER uint8_t ahz_tick(uint64_t *state, size_t state_words);
+
+/* A reset: 0. The state is as a fresh one, but setup, counters and base stay, and resets +1. */
+AHZ_USE_ANSWER uint8_t ahz_reset(uint64_t *state, size_t state_words);
+
+/* A latent reset: 0. The base is the latent figure, passed x (paths - 1) - discarded modulo 2^64, and latent resets +1. */
+AHZ_USE_ANSWER uint8_t ahz_latent_reset(uint64_t *state, size_t state_words);
+
+/* The latent error test, which changes nothing: AHZ_LATENT_ERROR where the base and the latent figure lie more than the setup's difference
+ * apart (base less figure modulo 2^64, read with a sign), else AHZ_LATENT_OK. */
+AHZ_USE_ANSWER uint8_t ahz_latent_test(const uint64_t *state, size_t state_words);
+
+/* ---- Charge cards: a kind of 1 octet and its number; 00 ends ---- */
+
+enum {
+    AHZ_CARD_END = 0x00,
+    AHZ_CARD_FLUSH_ORDER = 0x10, /* blocks asked, 4 octets */
+    AHZ_CARD_RAW_CODE = 0x11,    /* 2 octets */
+    AHZ_CARD_MILLIVOLTS = 0x12,  /* 2 octets */
+    AHZ_FLUSH_ORDER_OCTETS = 5,
+    AHZ_RAW_CODE_OCTETS = 3,
+    AHZ_MILLIVOLTS_OCTETS = 3
+};
 
 /* What stands next in a payload: AHZ_FLUSH_ORDER, AHZ_RAW_CODE or AHZ_MILLIVOLTS, with its value in value; or AHZ_END, and value stays.
  * Refusals, in this order: 20 its kind, 21 it is cut. */
-uint8_t ahz_card(const uint8_t *payload, size_t payload_octets, uint32_t *value);
+AHZ_USE_ANSWER uint8_t ahz_card(const uint8_t *payload, size_t payload_octets, uint32_t *value);
 
 /* How many octets the next card has: the first ones of the payload. 0 on a refusal or end. */
-size_t ahz_card_octets(const uint8_t *payload, size_t payload_octets);
+AHZ_USE_ANSWER size_t ahz_card_octets(const uint8_t *payload, size_t payload_octets);
 
-/* How many octets come after the next card: the last ones of the payload. 0 on a refusal or end. */
-size_t ahz_rest_octets(const uint8_t *payload, size_t payload_octets);
+/* How many octets come after the next card: the last ones of the payload. 0 on a refusal or end, and where nothing comes after it. */
+AHZ_USE_ANSWER size_t ahz_rest_octets(const uint8_t *payload, size_t payload_octets);
 
 /* The volts of the next card: AHZ_FROM_RAW_CODE, raw x gain + offset, rounded after each operation, or AHZ_FROM_MILLIVOLTS,
  * millivolts / 1000, with the volts in volts; or AHZ_NOT_A_READING, and volts stays.
- * Refusals, in this order: 22 the calibration; 20, 21 as ahz_card. */
-uint8_t ahz_volts(const uint8_t *payload, size_t payload_octets, double gain, double offset, double *volts);
+ * Refusals, in this order: 22 the calibration, whatever the card; 20, 21 as ahz_card. */
+AHZ_USE_ANSWER uint8_t ahz_volts(const uint8_t *payload, size_t payload_octets, double gain, double offset, double *volts);
 
 /* ---- The bench tape ---- */
 
-/* Octets that hold the output of every tape. */
+/* The events of a tape, each by its kind. A setup is the first event, and there is no second: rule 1, taken 1, history 2, milliseconds 4,
+ * rate 2, paths 1, difference 4. */
+enum {
+    AHZ_EVENT_NUMBERED = 0x01, /* a number, 2 octets */
+    AHZ_EVENT_TAGLESS = 0x02,
+    AHZ_EVENT_TICK = 0x03,
+    AHZ_EVENT_RESET = 0x04,
+    AHZ_EVENT_LATENT_RESET = 0x05,
+    AHZ_EVENT_LATENT_TEST = 0x06,
+    AHZ_EVENT_SETUP = 0x0F     /* 15 octets */
+};
+
+/* Octets of the longest tape that is no fault, and octets that hold the output of every tape. */
+#define AHZ_TAPE_LONGEST 4096
 #define AHZ_TAPE_OUTPUT 53479
 
-/* Runs a bench tape and writes its lines to the start of out, and how many octets they are to length. Later octets of out stay.
- * Every tape has an output: a fault of the tape is a line of it, its last.
- * It takes AHZ_TAPE_OUTPUT octets of stack and some hundreds more. Refusal: 8 where out is shorter than the output. */
-uint8_t ahz_tape(const uint8_t *tape, size_t tape_octets, uint8_t *out, size_t out_octets, size_t *length);
+/* Runs a bench tape and writes its lines to the start of out, and how many octets they are to length. Later octets of out stay. Answers 0.
+ * A line for each event, and one with the counters at the end; each ends with a newline. A fault of the tape, AHZ_FAULT_.. or a refusal of
+ * its setup, is the line `fault N` and the last one. So every tape has an output.
+ * It takes AHZ_TAPE_STACK octets of stack. Refusal: 8 where out is shorter than the output. */
+AHZ_USE_ANSWER uint8_t ahz_tape(const uint8_t *tape, size_t tape_octets, uint8_t *out, size_t out_octets, size_t *length);
 
 #ifdef __cplusplus
 }
 #endif
+
+/* ---- Typed forms ----
+ *
+ * The calls above take and give bare numbers. Over them, the forms below take units, setups, states and generators as types of their own,
+ * so that milliseconds given as ticks, or a raw code given as millivolts, do not compile. They are inline, decide nothing and refuse
+ * nothing: each packs its arguments, makes the call that is named over it, and gives its answer, so that a refused one changes nothing
+ * behind any pointer either. No pointer to a struct or to a number is null.
+ *
+ * A unit is a struct of one number. Its field is open: what a program reads or writes by it, as in `ticks.ticks = setup.timeout.ms`, is the
+ * program's own word. A program writes milliseconds and rates itself, by ahz_milliseconds and ahz_rate, or by AHZ_MS and AHZ_PER_SECOND;
+ * the others come from the form that is named beside them. In C++ no number becomes one of those: ahz_ticks_t(100) does not compile.
+ * In C it does by its braces: {100} and (ahz_ticks_t){100} make ticks of a number without a warning. Without braces of its own in a list,
+ * a number for a unit is taken too, but -Wall, by -Wmissing-braces, warns; elsewhere it does not compile. A pointer to one struct where one
+ * to another is asked is no more than a warning in C before GCC 14. */
+
+#ifdef __cplusplus
+#define AHZ_INLINE inline
+#define AHZ_CAST(type, value) static_cast<type>(value)
+#define AHZ_WRITTEN_UNIT(name, type, field) \
+    struct name { \
+        type field; \
+        name() = default; \
+        constexpr explicit name(type number) : field(number) {} \
+    }
+#define AHZ_GIVEN_UNIT(name, type, field) \
+    struct name { \
+        type field; \
+        name() = default; \
+    private: \
+        explicit name(type); \
+    }
+#else
+#define AHZ_INLINE static inline
+#define AHZ_CAST(type, value) ((type)(value))
+#define AHZ_WRITTEN_UNIT(name, type, field) \
+    typedef struct { \
+        type field; \
+    } name
+#define AHZ_GIVEN_UNIT AHZ_WRITTEN_UNIT
+#endif
+
+AHZ_WRITTEN_UNIT(ahz_milliseconds_t, uint32_t, ms);
+AHZ_WRITTEN_UNIT(ahz_rate_t, uint16_t, per_second);   /* ticks per second */
+AHZ_GIVEN_UNIT(ahz_ticks_t, uint64_t, ticks);         /* from ahz_full_ticks and ahz_state_ticks_left */
+AHZ_GIVEN_UNIT(ahz_raw_code_t, uint16_t, code);       /* from ahz_card_next, as the next two */
+AHZ_GIVEN_UNIT(ahz_millivolts_t, uint16_t, mv);
+AHZ_GIVEN_UNIT(ahz_blocks_t, uint32_t, blocks);
+AHZ_GIVEN_UNIT(ahz_volts_t, double, volts);           /* from ahz_card_volts */
+
+/* The two units that a program writes, as constants: a setup of them needs no code, and may lie in flash, as
+ *     static const ahz_setup_t setups[] = {{AHZ_RULE_VECTOR, AHZ_NOT_TAKEN, 8, AHZ_MS(100), AHZ_PER_SECOND(100), 2, 1}};
+ * In C they are braces with the number inside, and stand in an initialiser alone. */
+#ifdef __cplusplus
+#define AHZ_MS(n) ahz_milliseconds_t{n}
+#define AHZ_PER_SECOND(n) ahz_rate_t{n}
+#else
+#define AHZ_MS(n) {(n)}
+#define AHZ_PER_SECOND(n) {(n)}
+#endif
+
+/* A setup by name. See ahz_check_setup for the ranges. */
+typedef struct {
+    uint8_t rule;               /* AHZ_RULE_VECTOR or AHZ_RULE_MATCH */
+    uint8_t taken;              /* AHZ_TAKEN or AHZ_NOT_TAKEN: packets without a number */
+    uint16_t history;
+    ahz_milliseconds_t timeout;
+    ahz_rate_t rate;
+    uint8_t paths;
+    uint32_t difference;
+} ahz_setup_t;
+
+/* A recovery state. To store one, store its words. */
+typedef struct {
+    uint64_t words[AHZ_S_WORDS];
+} ahz_state_t;
+
+/* A generator, by its next number. */
+typedef struct {
+    uint16_t next;
+} ahz_generator_t;
+
+/* The eight counters of a state. */
+typedef struct {
+    uint64_t passed;
+    uint64_t discarded;
+    uint64_t order;
+    uint64_t rogue;
+    uint64_t lost;
+    uint64_t tagless;
+    uint64_t resets;
+    uint64_t latent_resets;
+} ahz_counters_t;
+
+/* What was read of a frame. */
+typedef struct {
+    uint64_t words[AHZ_H_WORDS];
+} ahz_header_t;
+
+/* What stands next in a payload: the answer, and the number that it names. Look at the answer first: a number that it does not name is 0,
+ * which is a number too. It is no union, so that a raw code is never read as millivolts. */
+typedef struct {
+    uint8_t answer;
+    ahz_blocks_t blocks;         /* AHZ_FLUSH_ORDER */
+    ahz_raw_code_t raw_code;     /* AHZ_RAW_CODE */
+    ahz_millivolts_t millivolts; /* AHZ_MILLIVOLTS */
+} ahz_card_t;
+
+/* Gain and offset of the raw codes' scale: 0 < gain <= 1 and -100 <= offset <= 100. */
+typedef struct {
+    double gain;
+    double offset;
+} ahz_calibration_t;
+
+/* 1 where the archive that is linked fits this header, else 0. */
+AHZ_USE_ANSWER AHZ_INLINE int ahz_version_fits(void) {
+    const uint32_t version = ahz_version();
+    return version >= AHZ_VERSION && version / 65536u == AHZ_VERSION_MAJOR;
+}
+
+/* 1 where an answer is a refusal, else 0. */
+AHZ_USE_ANSWER AHZ_INLINE int ahz_is_refusal(uint8_t answer) {
+    return answer != AHZ_DONE && answer < AHZ_NAMED;
+}
+
+/* What a refusal or a fault of a tape says, in a few words; of any other number, that it is neither. */
+AHZ_USE_ANSWER AHZ_INLINE const char *ahz_refusal_sentence(uint8_t refusal) {
+    switch (refusal) {
+    case AHZ_R_FRAME_SHORT: return "frame under 14 octets";
+    case AHZ_R_FRAME_LONG: return "frame over 1,522 octets";
+    case AHZ_R_TAG_CUT: return "octets end before the type after a tag";
+    case AHZ_R_TAG_TWICE: return "8100 after a C-TAG, or 8100 or F1C1 after an R-TAG";
+    case AHZ_R_VLAN: return "VLAN id 4,095";
+    case AHZ_R_TAG_THERE: return "insertion into a frame with an R-TAG";
+    case AHZ_R_RESULT_LONG: return "result over 1,522 octets";
+    case AHZ_R_OUTPUT_SHORT: return "output shorter than the result";
+    case AHZ_R_NO_TAG: return "removal from a frame without an R-TAG";
+    case AHZ_R_ENTRY_KIND: return "table entry of no known kind";
+    case AHZ_R_ENTRY_CUT: return "octets end inside a table entry";
+    case AHZ_R_ENTRY_RANGE: return "choice or VLAN of a table entry out of range";
+    case AHZ_R_ENTRY_257: return "257th table entry";
+    case AHZ_R_STATE: return "no state of this format, or one that is not sound";
+    case AHZ_R_RULE: return "rule not 0 or 1";
+    case AHZ_R_HISTORY: return "history length not 2 to 64";
+    case AHZ_R_MILLISECONDS: return "timeout not 1 to 3,600,000 ms";
+    case AHZ_R_RATE: return "ticks per second not 1 to 10,000";
+    case AHZ_R_PATHS: return "paths not 2 to 8";
+    case AHZ_R_CARD_KIND: return "card of no known kind";
+    case AHZ_R_CARD_CUT: return "octets end inside a card";
+    case AHZ_R_CALIBRATION: return "not 0 < gain <= 1, or not -100 <= offset <= 100";
+    case AHZ_FAULT_KIND: return "tape event of no known kind";
+    case AHZ_FAULT_CUT: return "octets end inside a tape event";
+    case AHZ_FAULT_SETUP: return "setup missing or repeated on a tape";
+    case AHZ_FAULT_LONG: return "tape over 4,096 octets";
+    case AHZ_R_TAKEN: return "taken flag not 0 or 1";
+    default: return "no refusal";
+    }
+}
+
+/* The two units that a program writes, of any number. */
+AHZ_USE_ANSWER AHZ_INLINE ahz_milliseconds_t ahz_milliseconds(uint32_t ms) {
+    ahz_milliseconds_t unit;
+    unit.ms = ms;
+    return unit;
+}
+
+AHZ_USE_ANSWER AHZ_INLINE ahz_rate_t ahz_rate(uint16_t ticks_per_second) {
+    ahz_rate_t unit;
+    unit.per_second = ticks_per_second;
+    return unit;
+}
+
+/* The one way from milliseconds to ticks: ahz_ticks. */
+AHZ_USE_ANSWER AHZ_INLINE ahz_ticks_t ahz_full_ticks(ahz_milliseconds_t timeout, ahz_rate_t rate) {
+    ahz_ticks_t unit;
+    unit.ticks = ahz_ticks(timeout.ms, rate.per_second);
+    return unit;
+}
+
+/* ahz_read. */
+AHZ_USE_ANSWER AHZ_INLINE uint8_t ahz_header_read(ahz_header_t *header, const uint8_t *frame, size_t frame_octets) {
+    return ahz_read(frame, frame_octets, header->words, AHZ_H_WORDS);
+}
+
+/* What a header says; of a header that ahz_header_read wrote. The payload is where it starts in the frame. */
+AHZ_USE_ANSWER AHZ_INLINE uint64_t ahz_header_destination(const ahz_header_t *header) {
+    return header->words[AHZ_H_DESTINATION];
+}
+
+AHZ_USE_ANSWER AHZ_INLINE uint64_t ahz_header_source(const ahz_header_t *header) {
+    return header->words[AHZ_H_SOURCE];
+}
+
+AHZ_USE_ANSWER AHZ_INLINE uint16_t ahz_header_type(const ahz_header_t *header) {
+    return AHZ_CAST(uint16_t, header->words[AHZ_H_TYPE]);
+}
+
+AHZ_USE_ANSWER AHZ_INLINE size_t ahz_header_payload(const ahz_header_t *header) {
+    return AHZ_CAST(size_t, header->words[AHZ_H_PAYLOAD]);
+}
+
+/* 1 with a C-TAG, and its VLAN id in vlan; else 0, and vlan stays. */
+AHZ_USE_ANSWER AHZ_INLINE int ahz_header_tagged(const ahz_header_t *header, uint16_t *vlan) {
+    if (header->words[AHZ_H_TAGGED] == 0) return 0;
+    *vlan = AHZ_CAST(uint16_t, header->words[AHZ_H_VLAN]);
+    return 1;
+}
+
+/* 1 with an R-TAG, and its number in number; else 0, and number stays: such a packet is one for ahz_state_tagless. */
+AHZ_USE_ANSWER AHZ_INLINE int ahz_header_numbered(const ahz_header_t *header, uint16_t *number) {
+    if (header->words[AHZ_H_NUMBERED] == 0) return 0;
+    *number = AHZ_CAST(uint16_t, header->words[AHZ_H_NUMBER]);
+    return 1;
+}
+
+/* ahz_generator. */
+AHZ_USE_ANSWER AHZ_INLINE ahz_generator_t ahz_generator_fresh(void) {
+    ahz_generator_t generator;
+    generator.next = ahz_generator();
+    return generator;
+}
+
+/* ahz_generate. */
+AHZ_USE_ANSWER AHZ_INLINE uint16_t ahz_generator_next(ahz_generator_t *generator) {
+    return ahz_generate(&generator->next);
+}
+
+/* ahz_generator_reset. */
+AHZ_INLINE void ahz_generator_restart(ahz_generator_t *generator) {
+    ahz_generator_reset(&generator->next);
+}
+
+/* ahz_check_setup. */
+AHZ_USE_ANSWER AHZ_INLINE uint8_t ahz_setup_check(ahz_setup_t setup) {
+    return ahz_check_setup(setup.rule, setup.taken, setup.history, setup.timeout.ms, setup.rate.per_second, setup.paths, setup.difference);
+}
+
+/* ahz_fresh. */
+AHZ_USE_ANSWER AHZ_INLINE uint8_t ahz_state_fresh(ahz_state_t *state, ahz_setup_t setup) {
+    return ahz_fresh(setup.rule, setup.taken, setup.history, setup.timeout.ms, setup.rate.per_second, setup.paths, setup.difference,
+                     state->words, AHZ_S_WORDS);
+}
+
+/* ahz_numbered. */
+AHZ_USE_ANSWER AHZ_INLINE uint8_t ahz_state_numbered(ahz_state_t *state, uint16_t number) {
+    return ahz_numbered(state->words, AHZ_S_WORDS, number);
+}
+
+/* ahz_tagless. */
+AHZ_USE_ANSWER AHZ_INLINE uint8_t ahz_state_tagless(ahz_state_t *state) {
+    return ahz_tagless(state->words, AHZ_S_WORDS);
+}
+
+/* ahz_tick. */
+AHZ_USE_ANSWER AHZ_INLINE uint8_t ahz_state_tick(ahz_state_t *state) {
+    return ahz_tick(state->words, AHZ_S_WORDS);
+}
+
+/* ahz_reset. */
+AHZ_USE_ANSWER AHZ_INLINE uint8_t ahz_state_reset(ahz_state_t *state) {
+    return ahz_reset(state->words, AHZ_S_WORDS);
+}
+
+/* ahz_latent_reset. */
+AHZ_USE_ANSWER AHZ_INLINE uint8_t ahz_state_latent_reset(ahz_state_t *state) {
+    return ahz_latent_reset(state->words, AHZ_S_WORDS);
+}
+
+/* ahz_latent_test. */
+AHZ_USE_ANSWER AHZ_INLINE uint8_t ahz_state_latent_test(const ahz_state_t *state) {
+    return ahz_latent_test(state->words, AHZ_S_WORDS);
+}
+
+/* What a state holds; of a state that a call wrote. Its setup: */
+AHZ_USE_ANSWER AHZ_INLINE ahz_setup_t ahz_state_setup(const ahz_state_t *state) {
+    ahz_setup_t setup;
+    setup.rule = AHZ_CAST(uint8_t, state->words[AHZ_S_RULE]);
+    setup.taken = AHZ_CAST(uint8_t, state->words[AHZ_S_TAKEN]);
+    setup.history = AHZ_CAST(uint16_t, state->words[AHZ_S_HISTORY]);
+    setup.timeout.ms = AHZ_CAST(uint32_t, state->words[AHZ_S_MILLISECONDS]);
+    setup.rate.per_second = AHZ_CAST(uint16_t, state->words[AHZ_S_RATE]);
+    setup.paths = AHZ_CAST(uint8_t, state->words[AHZ_S_PATHS]);
+    setup.difference = AHZ_CAST(uint32_t, state->words[AHZ_S_DIFFERENCE]);
+    return setup;
+}
+
+/* Its counters: */
+AHZ_USE_ANSWER AHZ_INLINE ahz_counters_t ahz_state_counters(const ahz_state_t *state) {
+    ahz_counters_t counters;
+    counters.passed = state->words[AHZ_S_PASSED];
+    counters.discarded = state->words[AHZ_S_DISCARDED];
+    counters.order = state->words[AHZ_S_ORDER];
+    counters.rogue = state->words[AHZ_S_ROGUE];
+    counters.lost = state->words[AHZ_S_LOST];
+    counters.tagless = state->words[AHZ_S_TAGLESS];
+    counters.resets = state->words[AHZ_S_RESETS];
+    counters.latent_resets = state->words[AHZ_S_LATENT_RESETS];
+    return counters;
+}
+
+/* The ticks left before it is reset; 0 where the timer stands: */
+AHZ_USE_ANSWER AHZ_INLINE ahz_ticks_t ahz_state_ticks_left(const ahz_state_t *state) {
+    ahz_ticks_t unit;
+    unit.ticks = state->words[AHZ_S_LEFT];
+    return unit;
+}
+
+/* 1, and its newest number in newest; or 0 under take-any, where there is none, and newest stays: */
+AHZ_USE_ANSWER AHZ_INLINE int ahz_state_newest(const ahz_state_t *state, uint16_t *newest) {
+    if (state->words[AHZ_S_TAKE_ANY] != 0) return 0;
+    *newest = AHZ_CAST(uint16_t, state->words[AHZ_S_NEWEST]);
+    return 1;
+}
+
+/* Its marks, bit k for mark k: */
+AHZ_USE_ANSWER AHZ_INLINE uint64_t ahz_state_marks(const ahz_state_t *state) {
+    return state->words[AHZ_S_MARKS];
+}
+
+/* Its latent base, modulo 2^64: */
+AHZ_USE_ANSWER AHZ_INLINE uint64_t ahz_state_base(const ahz_state_t *state) {
+    return state->words[AHZ_S_BASE];
+}
+
+/* ahz_card. */
+AHZ_USE_ANSWER AHZ_INLINE ahz_card_t ahz_card_next(const uint8_t *payload, size_t payload_octets) {
+    uint32_t value = 0;
+    ahz_card_t card;
+    card.answer = ahz_card(payload, payload_octets, &value);
+    card.blocks.blocks = card.answer == AHZ_FLUSH_ORDER ? value : 0;
+    card.raw_code.code = AHZ_CAST(uint16_t, card.answer == AHZ_RAW_CODE ? value : 0);
+    card.millivolts.mv = AHZ_CAST(uint16_t, card.answer == AHZ_MILLIVOLTS ? value : 0);
+    return card;
+}
+
+/* ahz_volts. */
+AHZ_USE_ANSWER AHZ_INLINE uint8_t ahz_card_volts(const uint8_t *payload, size_t payload_octets, ahz_calibration_t calibration,
+                                                    ahz_volts_t *volts) {
+    return ahz_volts(payload, payload_octets, calibration.gain, calibration.offset, &volts->volts);
+}
+
+#undef AHZ_INLINE
+#undef AHZ_CAST
+#undef AHZ_WRITTEN_UNIT
+#undef AHZ_GIVEN_UNIT
 
 #endif

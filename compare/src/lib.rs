@@ -1,9 +1,13 @@
 //! What the proved link layer is held against.
 //!
 //! `plain` is a second version of every call, written from document 01 and its sources and from
-//! nothing else. `proved` offers the same paths over the archive of the proved layer, so that a test
-//! can write `plain::frame::read` and `proved::frame::read` on one line.
+//! nothing else. The proved layer is called in two ways: by the package `ahozurime`, as programs do,
+//! and by `guarded`, which has every raw call of the archive but for its version, and watches over
+//! what is lent to it. `words` has what the plain version's records are at that border, and `layers`
+//! every call, asked of all three.
 
+pub mod guarded;
+pub mod layers;
 pub mod plain;
-pub mod proved;
 pub mod random;
+pub mod words;

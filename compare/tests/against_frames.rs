@@ -4,8 +4,8 @@
 mod common;
 
 use common::report;
-use compare::plain::frame as plain;
-use compare::proved::{frame as proved, raw};
+use compare::guarded;
+use compare::layers::{insert, payload, read, read_into, remove};
 use compare::random::{Random, SEED};
 
 /// What may stand between the addresses and the payload: every order of the two tags, good or
@@ -25,9 +25,16 @@ const LAYOUTS: [&[u8]; 12] = [
     &[0x81, 0x00, 0xFF, 0xFF, 0x81, 0x00, 0xFF, 0xFF],
 ];
 
+/// A frame of that length. Its addresses are any, or all zeros, or all ones.
 fn laid_out(random: &mut Random, layout: &[u8], length: usize) -> Vec<u8> {
     let mut octets = vec![0; 12];
-    random.fill(&mut octets);
+    for address in octets.chunks_mut(6) {
+        match random.below(8) {
+            0 => {}
+            1 => address.fill(0xFF),
+            _ => random.fill(address),
+        }
+    }
     octets.extend(layout);
     let head = octets.len();
     octets.resize(head.max(length), 0);
@@ -36,75 +43,50 @@ fn laid_out(random: &mut Random, layout: &[u8], length: usize) -> Vec<u8> {
     octets
 }
 
-/// An output and a length, filled the same for both versions.
-struct Lent {
-    out: Vec<u8>,
-    length: usize,
+/// Reading into too few words, just enough and more: as many as do not fit 8 bits, too.
+fn same_header(random: &mut Random, frame: &[u8]) -> u64 {
+    let count = random.pick(&[0, 1, 7, 8, 8, 9, 12, 13, 16, 17, 40, 255, 256, 263, 264, 300]);
+    let lent: Vec<u64> = (0..count).map(|_| random.next_u64()).collect();
+    let _ = read_into(frame, &lent);
+    2
 }
 
+/// A call that writes, with outputs too short, just long enough and longer; now and then by so much
+/// that 16 bits of the length would be too short.
 fn same_writes(
     random: &mut Random,
-    frame: &[u8],
     result: usize,
-    ours: impl Fn(&mut [u8], &mut usize) -> u8,
-    theirs: impl Fn(&mut [u8]) -> Result<usize, u8>,
+    call: impl Fn(&mut [u8]) -> Result<usize, u8>,
 ) -> u64 {
-    let rooms = [0, result.saturating_sub(1), result, result + 9];
+    let short = random.below(result as u64) as usize;
+    let longer = if random.once_in(64) { 65_536 + short } else { result + 9 };
+    let rooms = [0, result.saturating_sub(1), result, longer];
     for room in rooms {
-        let mut lent = Lent { out: vec![0; room], length: 77_777 };
-        random.fill(&mut lent.out);
-        let mut expected = lent.out.clone();
-        let (answer, length) = match theirs(&mut expected) {
-            Ok(length) => (0, length),
-            Err(refusal) => (refusal, lent.length),
-        };
-        let said = ours(&mut lent.out, &mut lent.length);
-        assert_eq!((said, lent.length), (answer, length), "{room} for {frame:02X?}");
-        assert_eq!(lent.out, expected, "{room} for {frame:02X?}");
+        let mut lent = vec![0; room];
+        random.fill(&mut lent);
+        let _ = call(&mut lent);
     }
-    rooms.len() as u64
+    2 * rooms.len() as u64
+}
+
+/// An R-TAG put in and taken off, with room for either.
+fn same_tagging(frame: &[u8], number: u16) -> u64 {
+    let _ = insert(frame, number, &mut [0; 40]);
+    let _ = remove(frame, &mut [0; 40]);
+    4
 }
 
 /// Every call on one frame; how many cases that was.
 fn same(random: &mut Random, frame: &[u8]) -> u64 {
-    let answer = plain::read(frame);
-    assert_eq!(proved::read(frame), answer, "{frame:02X?}");
-    assert!(std::ptr::eq(proved::payload(frame), plain::payload(frame)) || answer.is_err());
-    assert_eq!(proved::payload(frame).len(), plain::payload(frame).len(), "{frame:02X?}");
-
-    let words = random.below(12) as usize;
-    let lent: Vec<u64> = (0..words).map(|_| random.next_u64()).collect();
-    let mut header = lent.clone();
-    let said = raw::read(frame, &mut header);
-    match answer {
-        Err(refusal) => assert_eq!((said, &header), (refusal, &lent), "{frame:02X?}"),
-        Ok(_) if words < raw::HEADER_WORDS => assert_eq!((said, &header), (8, &lent)),
-        Ok(_) => {
-            assert_eq!((said, &header[8..]), (0, &lent[8..]), "later words stay");
-            let mut eight = [0; 8];
-            raw::read(frame, &mut eight);
-            assert_eq!(header[..8], eight);
-        }
-    }
-
     let number = random.number();
-    let put = same_writes(
-        random,
-        frame,
-        frame.len() + 6,
-        |out, length| raw::insert(frame, number, out, length),
-        |out| plain::insert(frame, number, out),
-    );
-    let taken = same_writes(
-        random,
-        frame,
-        frame.len().saturating_sub(6),
-        |out, length| raw::remove(frame, out, length),
-        |out| plain::remove(frame, out),
-    );
-    2 + put + taken
+    let _ = payload(frame);
+    same_header(random, frame)
+        + same_writes(random, frame.len() + 6, |out| insert(frame, number, out))
+        + same_writes(random, frame.len().saturating_sub(6), |out| remove(frame, out))
+        + 2
 }
 
+/// Every order of the tags, cut and grown to every length up to past the longest.
 #[test]
 fn every_length_of_every_layout() {
     let mut random = Random::new(SEED);
@@ -118,47 +100,71 @@ fn every_length_of_every_layout() {
     report("frames at every length, ours and plain", cases);
 }
 
-/// "Both sides of each edge": lengths 13/14, 1,522/1,523; C-TAG 17/18; R-TAG 19/20; both 23/24;
-/// insertion into 1,516/1,517. Each side with the paper's answer, from both versions.
+/// Lengths that do not fit 16 bits: 2, as any over 1,522.
 #[test]
-fn the_papers_frame_cases() {
+fn frames_of_many_octets() {
     let mut random = Random::new(SEED);
-    let (bare, c_tag, r_tag, both) = (LAYOUTS[0], LAYOUTS[1], LAYOUTS[2], LAYOUTS[4]);
     let mut cases = 0;
-    for (layout, length, answer) in [
-        (bare, 13, 1),
-        (bare, 14, 0),
-        (bare, 1_522, 0),
-        (bare, 1_523, 2),
-        (c_tag, 17, 3),
-        (c_tag, 18, 0),
-        (r_tag, 19, 3),
-        (r_tag, 20, 0),
-        (both, 23, 3),
-        (both, 24, 0),
-    ] {
-        let frame = laid_out(&mut random, layout, length);
-        assert_eq!(proved::read(&frame).err().unwrap_or(0), answer, "{length} of {layout:02X?}");
-        cases += same(&mut random, &frame);
+    for layout in LAYOUTS {
+        for length in [65_535, 65_536, 65_549, 65_550, 65_556, 65_600, 67_058, 131_136] {
+            let frame = laid_out(&mut random, layout, length);
+            assert_eq!(read(&frame), Err(2), "{length} of {layout:02X?}");
+            cases += same(&mut random, &frame);
+        }
     }
-    for (length, answer) in [(1_516, Ok(1_522)), (1_517, Err(7))] {
-        let frame = laid_out(&mut random, bare, length);
-        assert_eq!(proved::insert(&frame, 258, &mut [0; 1_600]), answer);
-        cases += same(&mut random, &frame);
-    }
-    let mut tagged = [0; 20];
-    proved::insert(&laid_out(&mut random, bare, 14), 258, &mut tagged).unwrap();
-    assert_eq!(tagged[12..18], [0xF1, 0xC1, 0, 0, 1, 2], "number 258");
-    report("the paper's frame cases, ours and plain", cases);
+    report("frames of many octets, ours and plain", cases);
 }
 
+/// A frame written out by hand, and its eight words: with both tags, and with neither.
+#[test]
+fn the_words_of_a_header() {
+    let mut frame = vec![2, 3, 4, 5, 6, 7, 0xFF, 0xFE, 0xFD, 0xFC, 0xFB, 0xFA];
+    frame.extend([0x81, 0x00, 0xEF, 0xFE, 0xF1, 0xC1, 0x12, 0x34, 0xAB, 0xCD, 0x88, 0xB5, 1]);
+    let (destination, source) = (0x0203_0405_0607, 0xFFFE_FDFC_FBFA);
+    let header = vec![destination, source, 1, 4_094, 1, 0xABCD, 0x88B5, 24];
+    assert_eq!(guarded::read(&frame, &[u64::MAX; 8]), (0, header));
+    frame.drain(12..22);
+    let header = vec![destination, source, 0, 0, 0, 0, 0x88B5, 14];
+    assert_eq!(guarded::read(&frame, &[u64::MAX; 8]), (0, header));
+}
+
+/// Every type, control value and number that may stand in a header, where each may stand.
+#[test]
+fn every_value_of_sixteen_bits() {
+    let mut random = Random::new(SEED);
+    let mut cases = 0;
+    let places: [(&[u8], usize); 6] = [
+        (LAYOUTS[0], 12), // the type
+        (LAYOUTS[1], 14), // a C-TAG's control value
+        (LAYOUTS[1], 16), // the type behind it
+        (LAYOUTS[2], 16), // an R-TAG's number
+        (LAYOUTS[2], 18), // the type behind it
+        (LAYOUTS[4], 22), // the type behind both
+    ];
+    for (layout, at) in places {
+        let mut frame = laid_out(&mut random, layout, 30);
+        for value in 0..=u16::MAX {
+            frame[at..at + 2].copy_from_slice(&value.to_be_bytes());
+            cases += same_header(&mut random, &frame) + same_tagging(&frame, value);
+        }
+    }
+    for layout in &LAYOUTS[..2] {
+        let frame = laid_out(&mut random, layout, 30);
+        for number in 0..=u16::MAX {
+            cases += same_tagging(&frame, number);
+        }
+    }
+    report("values of sixteen bits, ours and plain", cases);
+}
+
+/// Good frames with any one octet replaced by every other.
 #[test]
 fn every_damage_of_one_octet() {
     let mut random = Random::new(SEED);
     let mut cases = 0;
     for layout in &LAYOUTS[..6] {
         let good = laid_out(&mut random, layout, 40);
-        assert!(plain::read(&good).is_ok());
+        assert!(read(&good).is_ok());
         for at in 0..good.len() {
             for octet in 0..=255 {
                 let mut frame = good.clone();
@@ -170,6 +176,7 @@ fn every_damage_of_one_octet() {
     report("frames with one octet damaged, ours and plain", cases);
 }
 
+/// Frames of any length, with octets of tags where they may not belong.
 #[test]
 fn random_frames() {
     let mut random = Random::new(SEED);

@@ -3,71 +3,36 @@
 
 mod common;
 
+use ahozurime::recovery as safe;
+use ahozurime::Refusal;
+use ahozurime_sys::{AHZ_LATENT_ERROR, AHZ_LATENT_OK};
 use common::report;
-use compare::plain::recovery::{
-    self as plain, Counters, Milliseconds, Setup, State, Ticks, Verdict,
-};
-use compare::proved::{raw, recovery as proved};
+use compare::layers::{self, check_setup, event, events, fresh_into, raw_event, Event, Kept};
+use compare::plain::recovery::{Counters, Milliseconds, Setup, State, Ticks, LONGEST_HISTORY};
 use compare::random::{Random, SEED};
+use compare::{guarded, words};
 
-#[derive(Clone, Copy, Debug)]
-enum Event {
-    Packet(Option<u16>),
-    Tick,
-    Reset,
-    LatentReset,
-    LatentTest,
+/// A number of a range: one of its ends, any, or one of any smaller size.
+fn within(random: &mut Random, low: u64, high: u64) -> u64 {
+    let any = random.below(high - low + 1);
+    let smaller = any >> random.below(24);
+    low + random.pick(&[0, high - low, any, smaller])
 }
 
-const EVENTS: [Event; 6] = [
-    Event::Packet(None),
-    Event::Packet(Some(7)),
-    Event::Tick,
-    Event::Reset,
-    Event::LatentReset,
-    Event::LatentTest,
-];
-
-/// The answer's number, by the plain version in place.
-fn plainly(state: &mut State, event: Event) -> u8 {
-    let named = |answer: Result<u8, u8>| answer.unwrap_or_else(|refusal| refusal);
-    named(match event {
-        Event::Packet(number) => state.packet_in_place(number).map(|verdict| match verdict {
-            Verdict::Pass => raw::PASS,
-            Verdict::Discard => raw::DISCARD,
-        }),
-        Event::Tick => state.tick_in_place().map(|out| if out { raw::RESET } else { raw::TICK }),
-        Event::Reset => state.reset_in_place().map(|()| 0),
-        Event::LatentReset => state.latent_reset_in_place().map(|()| 0),
-        Event::LatentTest => {
-            state.latent_test().map(|error| if error { raw::LATENT_ERROR } else { raw::LATENT_OK })
-        }
-    })
-}
-
-fn by_words(words: &mut [u64], event: Event) -> u8 {
-    match event {
-        Event::Packet(Some(number)) => raw::numbered(words, number),
-        Event::Packet(None) => raw::tagless(words),
-        Event::Tick => raw::tick(words),
-        Event::Reset => raw::reset(words),
-        Event::LatentReset => raw::latent_reset(words),
-        Event::LatentTest => raw::latent_test(words),
+/// A setup anywhere in its ranges.
+fn random_setup(random: &mut Random) -> Setup {
+    Setup {
+        rule: random.pick(&[0, 0, 1]),
+        taken: random.pick(&[0, 1]),
+        history: random.between(2, 64) as u16,
+        timeout: Milliseconds(within(random, 1, 3_600_000) as u32),
+        ticks_per_second: within(random, 1, 10_000) as u16,
+        paths: random.between(2, 8) as u8,
+        difference: within(random, 0, u32::MAX.into()) as u32,
     }
 }
 
-fn same(state: &mut State, words: &mut [u64; raw::STATE_WORDS], event: Event) {
-    let before = *state;
-    let (said, expected) = (by_words(words, event), plainly(state, event));
-    assert_eq!(said, expected, "{event:?} at {before:?}");
-    assert_eq!(*words, proved::State::from(&*state).words, "{event:?} at {before:?}");
-}
-
-fn numbers(setup: &Setup) -> raw::SetupNumbers {
-    let Setup { rule, taken, history, timeout, ticks_per_second, paths, difference } = *setup;
-    (rule, taken, history, timeout.0, ticks_per_second, paths, difference)
-}
-
+/// Every field at both of its bounds and on both sides of each, all with all.
 #[test]
 fn setups_at_every_bound() {
     let mut random = Random::new(SEED);
@@ -78,7 +43,8 @@ fn setups_at_every_bound() {
                 for timeout in [0, 1, 3_600_000, 3_600_001, u32::MAX].map(Milliseconds) {
                     for ticks_per_second in [0, 1, 10_000, 10_001, 65_535] {
                         for paths in [0, 1, 2, 8, 9, 255] {
-                            let difference = random.next_u64() as u32;
+                            let any = random.next_u64() as u32;
+                            let difference = random.pick(&[0, 1, 1 << 31, u32::MAX, any]);
                             let setup = Setup {
                                 rule,
                                 taken,
@@ -98,54 +64,115 @@ fn setups_at_every_bound() {
     report("setups, ours and plain", cases);
 }
 
-fn same_setup(random: &mut Random, setup: &Setup) -> u64 {
-    let verdict = setup.check().err().unwrap_or(0);
-    assert_eq!(raw::check_setup(numbers(setup)), verdict, "{setup:?}");
-    let ticks = plain::full_ticks(setup.timeout, setup.ticks_per_second);
-    assert_eq!(proved::full_ticks(setup.timeout, setup.ticks_per_second), ticks);
-    for words in [0, 19, 20, 21] {
-        let lent: Vec<u64> = (0..words).map(|_| random.next_u64()).collect();
-        let mut state = lent.clone();
-        let said = raw::fresh(numbers(setup), &mut state);
-        match State::fresh(*setup) {
-            Err(refusal) => assert_eq!((said, &state), (refusal, &lent), "{setup:?}"),
-            Ok(_) if words != raw::STATE_WORDS => assert_eq!((said, &state), (14, &lent)),
-            Ok(fresh) => {
-                assert_eq!((said, &state[..]), (0, &proved::State::from(&fresh).words[..]))
-            }
+/// Every value of each field, in a setup that is else in range, under both rules; and setups that are
+/// in range anywhere.
+#[test]
+fn setups_of_every_value() {
+    let mut random = Random::new(SEED);
+    let mut cases = 0;
+    for value in 0..=u16::MAX {
+        let good = Setup { rule: (value >> 8 & 1) as u8, ..busy().setup };
+        let other = Setup { rule: 1 - good.rule, ..good };
+        let low = value as u8;
+        let timeout = Milliseconds(u32::from(value) << (value % 17));
+        let mut setups = vec![
+            Setup { history: value, ..good },
+            Setup { ticks_per_second: value, ..good },
+            Setup { timeout, ..good },
+            Setup { difference: timeout.0, ..good },
+            random_setup(&mut random),
+        ];
+        if value < 256 {
+            setups.push(Setup { history: value, ..other });
+            setups.push(Setup { rule: low, ..good });
+            setups.push(Setup { taken: low, ..good });
+            setups.push(Setup { paths: low, ..good });
+        }
+        for setup in setups {
+            cases += same_setup(&mut random, &setup);
         }
     }
-    6
+    report("setups of every value, ours and plain", cases);
 }
 
+/// The check; and a fresh state in too few words, just enough and more, which refuses by the setup's
+/// number before it looks at how many there are.
+fn same_setup(random: &mut Random, setup: &Setup) -> u64 {
+    let _ = check_setup(setup);
+    for count in [0, 1, 20, 21, 22, 40] {
+        let lent: Vec<u64> = (0..count).map(|_| random.next_u64()).collect();
+        let _ = fresh_into(setup, &lent);
+    }
+    7
+}
+
+/// "Full ticks = ms x ticks per second / 1000, rounded up", in 128 bits.
+fn exact(milliseconds: u32, rate: u16) -> u64 {
+    let product = u128::from(milliseconds) * u128::from(rate);
+    let rounded_up = product / 1_000 + u128::from(product % 1_000 != 0);
+    rounded_up.try_into().expect("below 2^48 / 1,000")
+}
+
+fn same_ticks(milliseconds: u32, rate: u16) {
+    let expected = Ticks(exact(milliseconds, rate));
+    assert_eq!(layers::ticks(Milliseconds(milliseconds), rate), expected);
+}
+
+/// Every rate that a setup may have, and those about it, with every remainder that milliseconds can
+/// leave; and both factors anywhere in their widths.
 #[test]
-fn the_generator() {
-    let mut ours = proved::Generator::fresh();
-    let mut theirs = plain::Generator::default();
-    for round in 0..140_000u32 {
-        let (number, next) = theirs.next();
-        assert_eq!(ours.next(), number);
-        theirs = next;
-        assert_eq!(ours.number, theirs.number);
-        if round % 50_000 == 49_999 {
-            ours.reset();
-            theirs = theirs.reset();
+fn milliseconds_become_ticks() {
+    let mut random = Random::new(SEED);
+    let mut cases = 0;
+    for rate in 0..=10_100 {
+        let far = random.next_u64() as u32 / 2;
+        let near_the_longest = 3_599_000..=3_600_001;
+        for milliseconds in (0..=1_001).chain(near_the_longest).chain(far..far + 1_000) {
+            same_ticks(milliseconds, rate);
+            cases += 2;
         }
     }
-    report("numbers generated, ours and plain", 140_000);
+    for _ in 0..2_000_000 {
+        same_ticks(random.between(0, 3_600_100) as u32, random.between(0, 10_100) as u16);
+        cases += 2;
+    }
+    for rate in 0..=u16::MAX {
+        for milliseconds in [0, 1, 999, 1_000, 1_001, 3_600_000, u32::MAX - 1, u32::MAX] {
+            same_ticks(milliseconds, rate);
+            same_ticks(random.next_u64() as u32, rate);
+            cases += 4;
+        }
+    }
+    report("milliseconds as ticks", cases);
+}
+
+/// Every number, and lists that go across the wrap before each reset.
+#[test]
+fn the_generator() {
+    for number in 0..=u16::MAX {
+        let next = if number == 65_535 { 0 } else { number + 1 };
+        assert_eq!(layers::generate(number), (number, next));
+        assert_eq!(layers::generator_reset(number), 0);
+    }
+    let mut typed = safe::Generator::fresh();
+    let mut lent = guarded::generator();
+    assert_eq!((typed.number(), lent), (0, 0));
+    for round in 0..200_000u32 {
+        let given;
+        (given, lent) = layers::generate(lent);
+        assert_eq!((typed.generate(), typed.number()), (given, lent));
+        if round % 90_000 == 89_999 {
+            typed.reset();
+            lent = layers::generator_reset(lent);
+            assert_eq!((typed.number(), lent), (0, 0));
+        }
+    }
+    report("numbers generated, ours and plain", 4 * 65_536 + 3 * 200_000);
 }
 
 /// A state made of likely and of unlikely fields; about half of them are sound.
 fn random_state(random: &mut Random) -> State {
-    let mut setup = Setup {
-        rule: random.pick(&[0, 0, 1]),
-        taken: random.pick(&[0, 1]),
-        history: random.pick(&[2, 3, 4, 33, 63, 64]),
-        timeout: Milliseconds(random.pick(&[1, 100, 3_600_000])),
-        ticks_per_second: random.pick(&[1, 100, 1_000, 10_000]),
-        paths: random.pick(&[2, 3, 8]),
-        difference: random.pick(&[0, 1, 5, u32::MAX]),
-    };
+    let mut setup = random_setup(random);
     match random.below(30) {
         0 => setup.rule = 2,
         1 => setup.taken = 2,
@@ -157,12 +184,17 @@ fn random_state(random: &mut Random) -> State {
     }
     let take_any = random.once_in(3);
     let full = setup.full_ticks().0;
-    let inside = u64::MAX >> (64 - u32::from(setup.history).clamp(1, 64));
+    let inside = u64::MAX >> (LONGEST_HISTORY - setup.history.clamp(1, LONGEST_HISTORY));
     let marks = match (take_any, setup.rule) {
         (true, _) | (_, 1) => 0,
+        _ if random.once_in(4) => inside,
         _ => random.next_u64() & inside | 1,
     };
-    let mut counter = || random.pick(&[0, 1, 2, u64::MAX, u64::MAX - 1, 1 << 63]);
+    let mut counter = || {
+        let (any, bits) = (random.next_u64(), random.below(65) as u32);
+        let low = u64::MAX.checked_shr(bits).unwrap_or(0);
+        random.pick(&[0, 1, 2, u64::MAX, u64::MAX - 1, low, low.wrapping_add(1), any])
+    };
     let counters = Counters {
         passed: counter(),
         discarded: counter(),
@@ -174,19 +206,21 @@ fn random_state(random: &mut Random) -> State {
         latent_resets: counter(),
     };
     let base = counter() as i64;
+    let about_16_bits = random.between(65_534, 65_538) as u64;
+    let left = [1, full, full.saturating_sub(1), full / 2 + 1, about_16_bits.min(full)];
     let mut state = State {
         setup,
         newest: if take_any { 65_535 } else { random.number() },
         marks,
         take_any,
-        ticks_left: Ticks(random.pick(&[1, full, full.saturating_sub(1), full / 2 + 1])),
+        ticks_left: Ticks(random.pick(&left)),
         counters,
         base,
     };
     // One respect more in which it may be unsound.
     match random.below(12) {
         0 => state.marks ^= 1,
-        1 => state.marks |= random.next_u64(),
+        1 => state.marks |= 1 << random.below(64),
         2 => state.newest = random.number(),
         3 => state.ticks_left = Ticks(full + 1),
         4 => state.ticks_left = Ticks(random.next_u64()),
@@ -197,6 +231,7 @@ fn random_state(random: &mut Random) -> State {
     state
 }
 
+/// Every event on states of any setup, sound ones and ones that are not in one respect.
 #[test]
 fn states_sound_and_unsound() {
     let mut random = Random::new(SEED);
@@ -204,16 +239,8 @@ fn states_sound_and_unsound() {
     for _ in 0..150_000 {
         let state = random_state(&mut random);
         sound += u64::from(state.is_sound());
-        for event in EVENTS {
-            let event = match event {
-                Event::Packet(Some(_)) => {
-                    Event::Packet(Some(state.newest.wrapping_add(random.between(-66, 66) as u16)))
-                }
-                event => event,
-            };
-            let mut next = state;
-            let mut words = proved::State::from(&state).words;
-            same(&mut next, &mut words, event);
+        for asked in events(state.newest.wrapping_add(random.between(-66, 66) as u16)) {
+            let _ = event(&state, asked);
             cases += 1;
         }
     }
@@ -221,10 +248,8 @@ fn states_sound_and_unsound() {
     report("states sound and unsound, ours and plain", cases);
 }
 
-#[test]
-fn words_that_hold_no_state() {
-    let mut random = Random::new(SEED);
-    let mut cases = 0;
+/// A state with every field in use.
+fn busy() -> State {
     let setup = Setup {
         rule: 0,
         taken: 1,
@@ -234,31 +259,89 @@ fn words_that_hold_no_state() {
         paths: 2,
         difference: 1,
     };
-    let (state, _) = State::fresh(setup).unwrap().packet(Some(3)).unwrap();
-    let words = proved::State::from(&state).words;
-    let narrow = [(0, 8), (1, 8), (2, 16), (3, 32), (4, 16), (5, 8), (6, 32), (7, 16), (9, 1)];
-    for event in EVENTS {
-        for (at, bits) in narrow {
-            for more in bits..64 {
-                // The bits that the field holds stay as they are in a sound state.
+    let mut state = State::fresh(setup).unwrap();
+    for number in [3, 3, 5, 4, 90] {
+        state.packet_in_place(Some(number)).unwrap();
+    }
+    state.packet_in_place(None).unwrap();
+    state.latent_reset_in_place().unwrap();
+    state.tick_in_place().unwrap();
+    state
+}
+
+/// Each event is refused by 14 and the words stay; the package makes no state of them.
+fn refused(words: &[u64], what: &str) -> u64 {
+    for asked in events(7) {
+        assert_eq!(raw_event(words, asked), (14, words.to_vec()), "{what}, {asked:?}");
+    }
+    if let Ok(words) = words.try_into() {
+        assert_eq!(safe::State::from_words(words), Err(Refusal::STATE), "{what}");
+    }
+    6
+}
+
+/// Words that are no state of this format, each refused by 14 and left as it was.
+#[test]
+fn words_that_hold_no_state() {
+    let mut random = Random::new(SEED);
+    let mut cases = 0;
+    let words = words::of_state(&busy());
+    // A word above what its field can hold, by one bit and by all from there on. The bits that the
+    // field holds are those of a sound state.
+    let narrow = [(1, 8), (2, 8), (3, 16), (4, 32), (5, 16), (6, 8), (7, 32), (8, 16), (10, 1)];
+    for (at, bits) in narrow {
+        for more in bits..64 {
+            for above in [1 << more, u64::MAX << more] {
                 let mut lent = words;
-                lent[at] |= 1 << more;
-                let kept = lent;
-                assert_eq!((by_words(&mut lent, event), lent), (14, kept), "word {at}, bit {more}");
+                lent[at] |= above;
+                cases += refused(&lent, &format!("word {at} with {above:#x}"));
+            }
+        }
+    }
+    // Another format: each bit of the word, those about it, and what stood first without one.
+    let formats = (0..64).map(|bit| words::FORMAT ^ 1 << bit);
+    let others = [0, 1, u64::MAX, words::FORMAT + 1, words::FORMAT - 1, words::FORMAT.swap_bytes()];
+    for format in formats.chain(others) {
+        let mut lent = words;
+        lent[0] = format;
+        cases += refused(&lent, &format!("format {format:#x}"));
+    }
+    let mut without = words;
+    without.rotate_left(1);
+    cases += refused(&without, "no format");
+    cases += refused(&without[..20], "twenty words without a format");
+    for length in 0..words::STATE {
+        cases += refused(&words[..length], &format!("{length} words"));
+        let noise: Vec<u64> = (0..length).map(|_| random.next_u64()).collect();
+        cases += refused(&noise, &format!("{length} words of noise"));
+    }
+    report("words that hold no state", cases);
+}
+
+/// "A state is the first words of what is lent": behind them anything may stand, and stays, however
+/// many there are; 8 or 16 bits of their number may be too few for a state.
+#[test]
+fn longer_lent_states() {
+    let mut random = Random::new(SEED);
+    let mut cases = 0;
+    let sound = busy();
+    let unsound = State { marks: 0, ..sound };
+    let counts = (22..=300).chain([511, 512, 533, 65_535, 65_536, 65_556, 65_557, 65_600]);
+    for count in counts {
+        let lent: Vec<u64> = (0..count).map(|_| random.next_u64()).collect();
+        assert!(fresh_into(&sound.setup, &lent).is_ok());
+        for state in [sound, unsound] {
+            let around =
+                |state: &State| [&words::of_state(state)[..], &lent[words::STATE..]].concat();
+            for asked in events(7) {
+                let (answer, next) = event(&state, asked);
+                let said = raw_event(&around(&state), asked);
+                assert!(said == (answer, around(&next)), "{asked:?}, {count} words, {state:?}");
                 cases += 1;
             }
         }
-        for length in (0..=40).filter(|&length| length != raw::STATE_WORDS) {
-            let mut lent: Vec<u64> = words.iter().copied().cycle().take(length).collect();
-            if random.once_in(2) {
-                lent.iter_mut().for_each(|word| *word = random.next_u64());
-            }
-            let kept = lent.clone();
-            assert_eq!((by_words(&mut lent, event), &lent), (14, &kept), "{length} words");
-            cases += 1;
-        }
     }
-    report("words that hold no state", cases);
+    report("longer lent states", cases);
 }
 
 fn random_event(random: &mut Random, newest: u16, history: u16) -> Event {
@@ -276,6 +359,7 @@ fn random_event(random: &mut Random, newest: u16, history: u16) -> Event {
     }
 }
 
+/// Long lists under both rules and every H, across the wrap of the numbers.
 #[test]
 fn event_lists_across_wraps_with_every_history() {
     let mut random = Random::new(SEED);
@@ -291,17 +375,64 @@ fn event_lists_across_wraps_with_every_history() {
                 paths: random.pick(&[2, 3, 8]),
                 difference: random.pick(&[0, 1, 1_000]),
             };
-            let mut state = State::fresh(setup).unwrap();
-            let mut words = proved::State::fresh(setup).unwrap().words;
+            let mut kept = Kept::of(&State::fresh(setup).unwrap());
             // Begin shortly before the wrap; two steps on for each event go across it again.
-            let start = Event::Packet(Some(65_500));
-            same(&mut state, &mut words, start);
+            kept.event(Event::Packet(Some(65_500)));
             for _ in 0..50_000 {
-                let event = random_event(&mut random, state.newest, history);
-                same(&mut state, &mut words, event);
+                kept.event(random_event(&mut random, kept.state().newest, history));
                 cases += 1;
             }
         }
     }
     report("events in lists across wraps, ours and plain", cases);
+}
+
+/// Every number there is, from states of both rules whose newest stands at the ends and in between.
+#[test]
+fn every_number_from_some_states() {
+    let mut cases = 0;
+    for rule in [0, 1] {
+        for history in [2, 4, 33, 63, 64] {
+            for newest in [0, 10, 32_767, 32_768, 65_535] {
+                let mut state = busy();
+                state.setup = Setup { rule, history, ..state.setup };
+                state.newest = newest;
+                state.marks =
+                    if rule == 1 { 0 } else { 0xAAAA_5555_AAAA_5555 >> (64 - history) | 1 };
+                assert!(state.is_sound());
+                for number in 0..=u16::MAX {
+                    let _ = event(&state, Event::Packet(Some(number)));
+                    cases += 1;
+                }
+            }
+        }
+    }
+    report("every number from some states, ours and plain", cases);
+}
+
+/// Figures anywhere in 64 bits, with the base as far off as the difference allows, and one further.
+#[test]
+fn latent_tests_at_the_bound() {
+    let mut random = Random::new(SEED);
+    let (mut cases, mut errors) = (0, 0);
+    for _ in 0..200_000 {
+        let mut state = busy();
+        state.setup.paths = random.between(2, 8) as u8;
+        let any = random.next_u64() as u32;
+        state.setup.difference = random.pick(&[0, 1, 2, any, u32::MAX]);
+        state.counters.passed = random.next_u64() >> random.pick(&[0, 16, 31, 32, 33, 60]);
+        state.counters.discarded = random.next_u64() >> random.pick(&[0, 16, 31, 32, 33, 60]);
+        (_, state) = event(&state, Event::LatentReset);
+        assert_eq!(event(&state, Event::LatentTest), (AHZ_LATENT_OK, state));
+        let (difference, further) = (i64::from(state.setup.difference), random.between(-1, 1));
+        let away = random.pick(&[1, -1]) * (difference + further);
+        state.base = state.base.wrapping_add(away);
+        let error = away.abs() > difference;
+        let answer = if error { AHZ_LATENT_ERROR } else { AHZ_LATENT_OK };
+        assert_eq!(event(&state, Event::LatentTest), (answer, state));
+        errors += u64::from(error);
+        cases += 3;
+    }
+    assert!(errors > 50_000, "both answers were wanted");
+    report("latent tests at the bound, ours and plain", cases);
 }

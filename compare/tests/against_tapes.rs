@@ -2,38 +2,35 @@
 
 mod common;
 
+use ahozurime::tape::OUTPUT;
 use common::report;
-use compare::plain::tape as plain;
-use compare::proved::{raw, tape as proved};
+use compare::layers::run;
+use compare::plain::tape::lines;
 use compare::random::{Random, SEED};
 
-/// Both run the tape into buffers of several lengths; answers, lengths and every octet are compared.
+/// A tape run into buffers of several lengths: one is longer than any output, and 16 bits of its
+/// length are too short.
 fn same(tape: &[u8]) -> u64 {
-    let lines = plain::lines(tape);
-    assert!(lines.len() <= proved::OUTPUT, "{tape:?}");
-    let lengths = [0, lines.len() - 1, lines.len(), lines.len() + 7, proved::OUTPUT];
+    let lines = lines(tape).len();
+    assert!(lines <= OUTPUT, "{tape:?}");
+    let lengths = [0, lines - 1, lines, lines + 7, OUTPUT, 65_536 + lines - 1];
     for length in lengths {
-        let mut out = vec![0xA5; length];
-        let mut expected = out.clone();
-        let mut told = 0x5A5A;
-        let answer = raw::tape(tape, &mut out, &mut told);
-        match plain::run(tape, &mut expected) {
-            Ok(n) => assert_eq!((answer, told), (0, n), "{tape:?}"),
-            Err(refusal) => assert_eq!((answer, told), (refusal, 0x5A5A), "{tape:?}"),
-        }
-        assert_eq!(out, expected, "{tape:?}");
+        let expected = if length < lines { Err(8) } else { Ok(lines) };
+        assert_eq!(run(tape, &mut vec![0xA5; length]), expected, "{tape:?}");
     }
-    lengths.len() as u64
+    2 * lengths.len() as u64
 }
 
-/// A setup whose fields are mostly in range.
+/// A setup whose fields are mostly in range; each octet of a timeout and a difference matters.
 fn setup(random: &mut Random, tape: &mut Vec<u8>) {
     tape.extend([0x0F, random.pick(&[0, 0, 0, 1, 1, 2]), random.pick(&[0, 0, 1, 1, 1, 2])]);
     tape.extend(random.pick(&[2u16, 3, 4, 16, 63, 64, 4, 64, 1, 65]).to_be_bytes());
-    tape.extend(random.pick(&[1u32, 11, 100, 3_600_000, 100, 0, 3_600_001]).to_be_bytes());
+    let timeouts = [1u32, 11, 100, 0x100, 0x1_0001, 0x10_0000, 3_600_000, 100, 0, 3_600_001];
+    tape.extend(random.pick(&timeouts).to_be_bytes());
     tape.extend(random.pick(&[1u16, 100, 10_000, 100, 100, 0, 10_001]).to_be_bytes());
     tape.push(random.pick(&[2, 3, 8, 2, 2, 1, 9]));
-    tape.extend(random.pick(&[0u32, 1, 3, u32::MAX]).to_be_bytes());
+    let differences = [0u32, 1, 3, 0x100, 0x1_0000, 0x100_0000, 1 << 31, u32::MAX];
+    tape.extend(random.pick(&differences).to_be_bytes());
 }
 
 fn event(random: &mut Random, near: &mut u16, tape: &mut Vec<u8>) {
@@ -54,6 +51,7 @@ fn event(random: &mut Random, near: &mut u16, tape: &mut Vec<u8>) {
     }
 }
 
+/// Tapes as a bench would bring them, some cut, with setups in range and out of it.
 #[test]
 fn tapes_of_events() {
     let mut random = Random::new(SEED);
@@ -76,20 +74,46 @@ fn tapes_of_events() {
     report("tapes against the plain version", cases);
 }
 
+/// "At most 4,096 octets"; those over it are 26, however long.
 #[test]
 fn tapes_at_the_longest() {
     let mut tape = vec![0x0F, 0, 0, 0, 4, 0, 0, 0, 100, 0, 100, 2, 0, 0, 0, 1];
     let mut cases = 0;
     for kind in [3, 5, 6] {
-        for length in [4_095, 4_096, 4_097, 5_000] {
+        for length in [4_095, 4_096, 4_097, 5_000, 65_535, 65_536, 65_552, 65_600, 69_632] {
             tape.resize(16, 0);
             tape.resize(length, kind);
+            let faulty = lines(&tape) == b"fault 26\n";
+            assert_eq!(faulty, length > 4_096, "{length}");
             cases += same(&tape);
         }
     }
-    report("tapes of 4,095 to 5,000 octets", cases);
+    report("tapes of 4,095 octets and more", cases);
 }
 
+/// A second setup, cut or whole: 24 comes before 25, and 25 before what its fields say.
+#[test]
+fn tapes_with_a_second_setup() {
+    let setup = [0x0F, 0, 0, 0, 4, 0, 0, 0, 100, 0, 100, 2, 0, 0, 0, 1];
+    let bad = [0x0F; 16];
+    let mut cases = 0;
+    for second in [setup, bad] {
+        for length in 0..=second.len() {
+            let tape = [&setup[..], &[1, 0, 9, 3], &second[..length]].concat();
+            let fault = match length {
+                0 => "passed=1",
+                16 => "fault 25\n",
+                _ => "fault 24\n",
+            };
+            let printed = String::from_utf8(lines(&tape)).unwrap();
+            assert!(printed.contains(fault), "{length}: {printed}");
+            cases += same(&tape);
+        }
+    }
+    report("tapes with a second setup", cases);
+}
+
+/// Short tapes of any octets, most of which are kinds.
 #[test]
 fn tapes_of_noise() {
     let mut random = Random::new(SEED + 1);

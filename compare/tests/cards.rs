@@ -1,13 +1,16 @@
-//! "Charge cards": the walk, the calibration's bounds as bit patterns, and volts.
+//! "Charge cards": the walk, the calibration's bounds as bit patterns, and volts. Every version is
+//! asked.
 
 mod common;
 
 use common::report;
-use compare::plain::cards::{card, next, rest, volts, Calibration, Card, Volts};
+use compare::layers::{card, next_card, rest, volts};
+use compare::plain::cards::{Calibration, Card, Volts};
 use compare::random::{Random, SEED};
 
 const FAIR: Calibration = Calibration { gain: 0.25, offset: 0.5 };
 
+/// The paper's reading, and what has no volts.
 #[test]
 fn the_papers_reading() {
     assert_eq!(volts(&[0x11, 0, 10], FAIR), Ok(Volts::FromRawCode(3.0)));
@@ -18,22 +21,24 @@ fn the_papers_reading() {
     assert_eq!(volts(&[], FAIR), Ok(Volts::NotAReading));
 }
 
+/// The next card and the rest are parts of the lent payload, up to its end.
 #[test]
 fn the_next_card() {
     let payload = [0x10, 1, 2, 3, 4, 0x11, 0xAB, 0xCD, 0x12, 0x10, 0x00, 0x00, 0x77];
-    assert_eq!(next(&payload), Ok(Card::FlushOrder(0x0102_0304)));
+    assert_eq!(next_card(&payload), Ok(Card::FlushOrder(0x0102_0304)));
     assert!(std::ptr::eq(card(&payload), &payload[..5]));
     assert!(std::ptr::eq(rest(&payload), &payload[5..]));
-    assert_eq!(next(&payload[5..]), Ok(Card::RawCode(0xABCD)));
+    assert_eq!(next_card(&payload[5..]), Ok(Card::RawCode(0xABCD)));
     assert!(std::ptr::eq(card(&payload[5..]), &payload[5..8]));
     assert!(std::ptr::eq(rest(&payload[5..]), &payload[8..]));
-    assert_eq!(next(&payload[8..]), Ok(Card::Millivolts(4_096)));
+    assert_eq!(next_card(&payload[8..]), Ok(Card::Millivolts(4_096)));
     for end in [&payload[11..], &[]] {
-        assert_eq!(next(end), Ok(Card::End));
+        assert_eq!(next_card(end), Ok(Card::End));
         assert!(card(end).is_empty() && rest(end).is_empty());
     }
 }
 
+/// Every kind octet at every length: 20 and 21, with 22 before both.
 #[test]
 fn every_kind_cut_everywhere() {
     let mut cases = 0;
@@ -49,7 +54,7 @@ fn every_kind_cut_everywhere() {
                 (0x10..=0x12, _) => Err(21),
                 _ => Err(20),
             };
-            assert_eq!(next(payload), expected, "{payload:02X?}");
+            assert_eq!(next_card(payload), expected, "{payload:02X?}");
             if !matches!(expected, Ok(Card::FlushOrder(_) | Card::RawCode(_) | Card::Millivolts(_)))
             {
                 assert!(card(payload).is_empty() && rest(payload).is_empty());
@@ -64,25 +69,27 @@ fn every_kind_cut_everywhere() {
     report("cards of every kind, cut everywhere", cases);
 }
 
+/// The doubles at a bound and the next ones on both sides of it, for gain and offset.
 #[test]
 fn calibrations_at_their_bounds() {
-    let up = f64::next_up;
-    let down = f64::next_down;
-    let good_gains = [up(0.0), f64::MIN_POSITIVE, 0.25, down(1.0), 1.0];
+    // The next double away from zero, and towards it.
+    let further = |x: f64| f64::from_bits(x.to_bits() + 1);
+    let nearer = |x: f64| f64::from_bits(x.to_bits() - 1);
+    let good_gains = [further(0.0), f64::MIN_POSITIVE, 0.25, nearer(1.0), 1.0];
     let bad_gains = [
         0.0,
         -0.0,
-        down(-0.0),
-        up(1.0),
+        further(-0.0),
+        further(1.0),
         -1.0,
         f64::INFINITY,
         f64::NEG_INFINITY,
         f64::NAN,
         -f64::NAN,
     ];
-    let good_offsets = [-100.0, up(-100.0), -0.0, 0.0, f64::MIN_POSITIVE, down(100.0), 100.0];
+    let good_offsets = [-100.0, nearer(-100.0), -0.0, 0.0, further(0.0), nearer(100.0), 100.0];
     let bad_offsets =
-        [down(-100.0), up(100.0), f64::INFINITY, f64::NEG_INFINITY, f64::NAN, -f64::NAN];
+        [further(-100.0), further(100.0), f64::INFINITY, f64::NEG_INFINITY, f64::NAN, -f64::NAN];
     let mut cases = 0;
     let gains = good_gains.iter().map(|&gain| (gain, true));
     for (gain, gain_fits) in gains.chain(bad_gains.iter().map(|&gain| (gain, false))) {
@@ -93,7 +100,9 @@ fn calibrations_at_their_bounds() {
             let calibration = Calibration { gain, offset };
             let expected = if gain_fits && offset_fits { Ok(()) } else { Err(22) };
             assert_eq!(calibration.check(), expected, "{calibration:?}");
-            if let Ok(Volts::FromRawCode(volts)) = volts(&[0x11, 0xFF, 0xFF], calibration) {
+            let answer = volts(&[0x11, 0xFF, 0xFF], calibration);
+            assert_eq!(answer.map(|_| ()), expected, "{calibration:?}");
+            if let Ok(Volts::FromRawCode(volts)) = answer {
                 assert!(volts.is_finite() && (-100.0..=65_635.0).contains(&volts));
             }
             cases += 1;
@@ -172,11 +181,11 @@ fn walks() {
         }
         let mut left = &payload[..];
         for expected in cards {
-            assert_eq!(next(left), Ok(expected));
+            assert_eq!(next_card(left), Ok(expected));
             assert_eq!([card(left), rest(left)].concat(), left);
             left = rest(left);
         }
-        assert_eq!(next(left), last);
+        assert_eq!(next_card(left), last);
         assert!(card(left).is_empty() && rest(left).is_empty());
         cases += 1;
     }

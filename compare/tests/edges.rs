@@ -1,11 +1,20 @@
-//! "Both sides of each edge", case for case and in the paper's order.
+//! "Both sides of each edge", case for case and in the paper's order, asked of every version.
 
-use compare::plain::frame::{insert, payload, r_tag, read, remove};
-use compare::plain::recovery::{
-    full_ticks, Milliseconds, Setup, State, Ticks, Verdict, MATCH, VECTOR,
-};
+use ahozurime_sys::{AHZ_DISCARD, AHZ_PASS};
+use compare::layers::{self, insert, payload, read, remove, Event, Kept};
+use compare::plain::frame::r_tag;
+use compare::plain::recovery::{Milliseconds, Setup, Ticks, MATCH, VECTOR};
 
-fn fresh(rule: u8, history: u16) -> State {
+/// What one packet's answer is and what it adds to discarded, order and rogue.
+type Effect = (u8, [u64; 3]);
+
+const PASS_IN_ORDER: Effect = (AHZ_PASS, [0, 0, 0]);
+const PASS_OUT_OF_ORDER: Effect = (AHZ_PASS, [0, 1, 0]);
+const REPEAT: Effect = (AHZ_DISCARD, [1, 0, 0]);
+const ROGUE: Effect = (AHZ_DISCARD, [1, 0, 1]);
+
+/// A state after numbered packets, each of which has to pass.
+fn after(rule: u8, history: u16, numbers: &[u16]) -> Kept {
     let setup = Setup {
         rule,
         taken: 0,
@@ -15,87 +24,76 @@ fn fresh(rule: u8, history: u16) -> State {
         paths: 2,
         difference: 1,
     };
-    State::fresh(setup).expect("a setup in range")
+    let mut kept = Kept::of(&layers::fresh(&setup).expect("a setup in range"));
+    for &number in numbers {
+        assert_eq!(kept.event(Event::Packet(Some(number))), AHZ_PASS, "{number} was to pass");
+    }
+    kept
 }
 
-/// The state after numbered packets, each of which has to pass.
-fn after(state: State, numbers: &[u16]) -> State {
-    numbers.iter().fold(state, |state, &number| {
-        let (next, verdict) = state.packet(Some(number)).expect("a sound state");
-        assert_eq!(verdict, Verdict::Pass, "{number} was to pass");
-        next
-    })
-}
-
-/// The verdict on one more packet, and what it added to discarded, order and rogue.
-fn one(state: State, number: u16) -> (Verdict, [u64; 3]) {
-    let (next, verdict) = state.packet(Some(number)).expect("a sound state");
-    let (old, new) = (state.counters, next.counters);
+/// One more packet, which has that effect.
+fn one(rule: u8, history: u16, numbers: &[u16], number: u16, effect: Effect) {
+    let mut kept = after(rule, history, numbers);
+    let old = kept.state().counters;
+    let answer = kept.event(Event::Packet(Some(number)));
+    let new = kept.state().counters;
     let added = [new.discarded - old.discarded, new.order - old.order, new.rogue - old.rogue];
-    (verdict, added)
+    assert_eq!((answer, added), effect, "{number} after {numbers:?}");
 }
-
-const PASS_IN_ORDER: (Verdict, [u64; 3]) = (Verdict::Pass, [0, 0, 0]);
-const PASS_OUT_OF_ORDER: (Verdict, [u64; 3]) = (Verdict::Pass, [0, 1, 0]);
-const REPEAT: (Verdict, [u64; 3]) = (Verdict::Discard, [1, 0, 0]);
-const ROGUE: (Verdict, [u64; 3]) = (Verdict::Discard, [1, 0, 1]);
 
 #[test]
 fn fresh_takes_ten() {
-    assert_eq!(one(fresh(VECTOR, 4), 10), PASS_IN_ORDER);
+    one(VECTOR, 4, &[], 10, PASS_IN_ORDER);
 }
 
 #[test]
 fn history_of_four_above_ten() {
-    let state = after(fresh(VECTOR, 4), &[10]);
-    assert_eq!(one(state, 13), PASS_OUT_OF_ORDER);
-    assert_eq!(one(state, 14), ROGUE);
+    one(VECTOR, 4, &[10], 13, PASS_OUT_OF_ORDER);
+    one(VECTOR, 4, &[10], 14, ROGUE);
 }
 
 #[test]
 fn history_of_four_after_ten_and_thirteen() {
-    let state = after(fresh(VECTOR, 4), &[10, 13]);
-    assert_eq!(one(state, 11), PASS_OUT_OF_ORDER);
-    assert_eq!(one(state, 10), REPEAT);
-    assert_eq!(one(state, 9), ROGUE);
+    one(VECTOR, 4, &[10, 13], 11, PASS_OUT_OF_ORDER);
+    one(VECTOR, 4, &[10, 13], 10, REPEAT);
+    one(VECTOR, 4, &[10, 13], 9, ROGUE);
 }
 
 #[test]
 fn the_wrap_is_in_order() {
     for history in 2..=64 {
-        assert_eq!(one(after(fresh(VECTOR, history), &[65_535]), 0), PASS_IN_ORDER);
+        one(VECTOR, history, &[65_535], 0, PASS_IN_ORDER);
     }
 }
 
 #[test]
 fn history_of_sixty_four_below_zero() {
-    let state = after(fresh(VECTOR, 64), &[0]);
-    assert_eq!(one(state, 65_473), PASS_OUT_OF_ORDER);
-    assert_eq!(one(state, 65_472), ROGUE);
-    assert_eq!(one(state, 32_768), ROGUE);
+    one(VECTOR, 64, &[0], 65_473, PASS_OUT_OF_ORDER);
+    one(VECTOR, 64, &[0], 65_472, ROGUE);
+    one(VECTOR, 64, &[0], 32_768, ROGUE);
 }
 
 #[test]
 fn milliseconds_become_ticks() {
-    assert_eq!(full_ticks(Milliseconds(100), 100), Ticks(10));
-    assert_eq!(full_ticks(Milliseconds(1), 100), Ticks(1));
-    assert_eq!(full_ticks(Milliseconds(11), 100), Ticks(2));
-    assert_eq!(full_ticks(Milliseconds(3_600_000), 10_000), Ticks(36_000_000));
+    for (milliseconds, rate, ticks) in
+        [(100, 100, 10), (1, 100, 1), (11, 100, 2), (3_600_000, 10_000, 36_000_000)]
+    {
+        assert_eq!(layers::ticks(Milliseconds(milliseconds), rate), Ticks(ticks));
+    }
 }
 
 #[test]
 fn match_compares_with_the_last_only() {
-    let state = after(fresh(MATCH, 4), &[5, 6, 5]);
-    assert_eq!(state.counters.order, 1);
-    assert_eq!(state.counters.passed, 3);
-    assert_eq!(one(after(fresh(MATCH, 4), &[5]), 5), REPEAT);
+    let counters = after(MATCH, 4, &[5, 6, 5]).state().counters;
+    assert_eq!((counters.order, counters.passed), (1, 3));
+    one(MATCH, 4, &[5], 5, REPEAT);
 }
 
 #[test]
 fn the_tag_of_258() {
     assert_eq!(r_tag(258), [0xF1, 0xC1, 0, 0, 1, 2]);
     let mut out = [0xEE; 20];
-    assert_eq!(insert(&plain(14), 258, &mut out), Ok(20));
+    assert_eq!(insert(&framed(&[], 14), 258, &mut out), Ok(20));
     assert_eq!(out[12..18], [0xF1, 0xC1, 0, 0, 1, 2]);
 }
 
@@ -107,10 +105,6 @@ fn framed(tags: &[u8], length: usize) -> Vec<u8> {
     frame.extend_from_slice(&[8, 0]);
     frame.resize(length, 0);
     frame
-}
-
-fn plain(length: usize) -> Vec<u8> {
-    framed(&[], length)
 }
 
 const C: [u8; 4] = [0x81, 0, 0, 5];
@@ -146,6 +140,7 @@ fn longest_frames() {
     }
 }
 
+/// Insertion into 1,516 and 1,517 octets, and back.
 #[test]
 fn longest_insertion() {
     for tags in [&[][..], &C] {

@@ -1,9 +1,11 @@
-//! "Reading a frame" on frames built from their fields, cut and damaged, and both round trips.
+//! "Reading a frame" on frames built from their fields, cut and damaged, and both round trips. Every
+//! version is asked.
 
 mod common;
 
 use common::report;
-use compare::plain::frame::{insert, payload, read, remove, Header};
+use compare::layers::{insert, payload, read, remove};
+use compare::plain::frame::Header;
 use compare::random::{Random, SEED};
 
 /// A frame as a list of fields, from which its octets follow.
@@ -75,6 +77,7 @@ fn expected(fields: &Fields, length: usize) -> Result<Header, u8> {
     }
 }
 
+/// Reading at every length answers by the fields that the frame was built from.
 #[test]
 fn every_length_of_every_layout() {
     let mut random = Random::new(SEED);
@@ -103,6 +106,7 @@ fn after_addresses(octets: &[u8]) -> Vec<u8> {
     frame
 }
 
+/// At a C-TAG 3, 5, 4; at an R-TAG 3, 4.
 #[test]
 fn checks_stand_in_the_papers_order() {
     let cases: [(&[u8], u8); 14] = [
@@ -151,6 +155,7 @@ fn outputs(expected: Result<Vec<u8>, u8>, call: impl Fn(&mut [u8]) -> Result<usi
     lengths.len() as u64
 }
 
+/// Both calls write the frame that is built from the other fields, or refuse 2, 6, 7, 9 or 8.
 #[test]
 fn put_in_and_taken_off() {
     let mut random = Random::new(SEED);
@@ -179,6 +184,8 @@ fn put_in_and_taken_off() {
     report("R-TAGs put in and taken off", cases);
 }
 
+/// "Insert then remove gives the first frame"; the other way round where the reserved octets are
+/// zero.
 #[test]
 fn round_trips() {
     let mut random = Random::new(SEED + 1);

@@ -1,6 +1,7 @@
 //! Recovery against places: every packet of a span gets a place, a signed 64-bit number, and what
 //! has passed, is lost or is still open is counted from the list of packets alone. No mark, no
-//! window of bits and no stored number of the layer is read to find the expected answer.
+//! window of bits and no stored number of the layer is read to find the expected answer. Every version
+//! is held to it, each on a state of its own.
 //!
 //! The sum behind 01's tape ("4 + 2 = 3 passed + 2 lost + 1 open") is held after each event: H and
 //! the way from the first place to the newest are the passed, the lost and the open places
@@ -8,22 +9,12 @@
 
 mod common;
 
+use ahozurime_sys as sys;
 use common::report;
-use compare::plain::recovery::{Counters, Milliseconds, Setup, State, Verdict, MATCH, VECTOR};
+use compare::layers::{self, Event, Kept};
+use compare::plain::recovery::{Counters, Milliseconds, Setup, State, MATCH, VECTOR};
 use compare::random::{Random, SEED};
 use std::collections::BTreeSet;
-
-#[derive(Clone, Copy, Debug, PartialEq, Eq)]
-enum Event {
-    Packet(Option<u16>),
-    Tick,
-    Reset,
-    LatentReset,
-    LatentTest,
-}
-
-/// What the layer says to an event: did the packet pass, did the tick time out, is there an error.
-type Answer = Option<bool>;
 
 /// The numbered packets from a reset to the next.
 struct Span {
@@ -101,21 +92,25 @@ impl Model {
         i64::from(self.setup.history)
     }
 
-    fn event(&mut self, event: Event) -> Answer {
+    /// The number of the answer: did the packet pass, did the tick time out, is there an error.
+    fn event(&mut self, event: Event) -> u8 {
         match event {
-            Event::Packet(number) => return Some(self.packet(number)),
-            Event::Tick => return Some(self.tick()),
-            Event::Reset => self.reset(),
+            Event::Packet(number) if self.packet(number) => sys::AHZ_PASS,
+            Event::Packet(_) => sys::AHZ_DISCARD,
+            Event::Tick if self.tick() => sys::AHZ_RESET,
+            Event::Tick => sys::AHZ_TICK,
+            Event::Reset => {
+                self.reset();
+                sys::AHZ_DONE
+            }
             Event::LatentReset => {
                 self.base = self.figure();
                 self.counted.latent_resets += 1;
+                sys::AHZ_DONE
             }
-            Event::LatentTest => {
-                let away = (self.base - self.figure()).abs();
-                return Some(away > i128::from(self.setup.difference));
-            }
+            Event::LatentTest if self.is_far_off() => sys::AHZ_LATENT_ERROR,
+            Event::LatentTest => sys::AHZ_LATENT_OK,
         }
-        None
     }
 
     fn packet(&mut self, number: Option<u16>) -> bool {
@@ -190,44 +185,37 @@ impl Model {
         i128::from(self.counted.passed) * others - i128::from(self.counted.discarded)
     }
 
+    fn is_far_off(&self) -> bool {
+        (self.base - self.figure()).abs() > i128::from(self.setup.difference)
+    }
+
     /// What a state has to hold after the events so far. The marks come last, as a view of the
     /// places.
-    fn holds(&self, state: &State, recount: bool) {
+    fn holds(&self, state: &State) {
         let history = self.history();
+        assert_eq!(state.setup, self.setup);
         assert_eq!(state.counters, self.counted);
         assert_eq!(i128::from(state.base), self.base);
-        assert_eq!(state.ticks_left.0, self.since_pass.map_or(0, |ticks| self.full - ticks));
+        let left = self.since_pass.map_or(0, |ticks| self.full - ticks);
+        assert_eq!(state.ticks_left.0, left);
         assert_eq!(state.take_any, self.span.is_none() && self.last.is_none());
         let Some(span) = &self.span else {
             assert_eq!((state.newest, state.marks), (self.last.unwrap_or(65_535), 0));
             return;
         };
-        assert!(span.sum_closes(history));
         assert_eq!(i64::from(state.newest), span.newest.rem_euclid(65_536));
         let near = span.passed.range(span.newest - history + 1..);
-        assert_eq!(state.marks, near.fold(0, |marks, place| marks | 1 << (span.newest - place)));
-        if recount {
-            assert_eq!(span.lost, span.recount(history));
-        }
+        let marks = near.fold(0, |marks, place| marks | 1 << (span.newest - place));
+        assert_eq!(state.marks, marks);
     }
-}
 
-fn step(state: &mut State, event: Event) -> Answer {
-    let (next, answer) = match event {
-        Event::Packet(number) => {
-            let (next, verdict) = state.packet(number).unwrap();
-            (next, Some(verdict == Verdict::Pass))
-        }
-        Event::Tick => {
-            let (next, timed_out) = state.tick().unwrap();
-            (next, Some(timed_out))
-        }
-        Event::Reset => (state.reset().unwrap(), None),
-        Event::LatentReset => (state.latent_reset().unwrap(), None),
-        Event::LatentTest => (*state, Some(state.latent_test().unwrap())),
-    };
-    *state = next;
-    answer
+    /// The sum closes; and, where it is asked for, the lost places counted anew are those that were
+    /// counted one by one.
+    fn closes(&self, recount: bool) {
+        let Some(span) = &self.span else { return };
+        assert!(span.sum_closes(self.history()));
+        assert!(!recount || span.lost == span.recount(self.history()));
+    }
 }
 
 /// Numbers as two paths would bring them: mostly the next one, some late, some twice, some far off.
@@ -269,16 +257,17 @@ fn random_setup(random: &mut Random, rule: u8, history: u16) -> Setup {
     }
 }
 
-/// The list so far, and the state that the layer made of it.
+/// The list so far, and the state that each version made of it.
 struct Held {
     model: Model,
-    state: State,
+    kept: Kept,
     events: u64,
 }
 
 impl Held {
     fn fresh(setup: Setup) -> Held {
-        Held { model: Model::new(setup), state: State::fresh(setup).unwrap(), events: 0 }
+        let fresh = layers::fresh(&setup).expect("a setup in range");
+        Held { model: Model::new(setup), kept: Kept::of(&fresh), events: 0 }
     }
 
     /// What the next number is drawn near to. Taken from the model, so a wrong state cannot steer
@@ -293,15 +282,16 @@ impl Held {
     }
 
     fn event(&mut self, event: Event, recount_every: u64) {
-        let setup = self.model.setup;
-        let expected = self.model.event(event);
-        let answer = step(&mut self.state, event);
+        let (expected, answer) = (self.model.event(event), self.kept.event(event));
+        let setup = &self.model.setup;
         assert_eq!(answer, expected, "event {}, {event:?}, {setup:?}", self.events);
-        self.model.holds(&self.state, self.events.is_multiple_of(recount_every));
+        self.model.holds(&self.kept.state());
+        self.model.closes(self.events % recount_every == 0);
         self.events += 1;
     }
 }
 
+/// Short lists with every H and both rules, all places counted after each event.
 #[test]
 fn short_lists_counted_after_each_event() {
     let mut random = Random::new(SEED);
@@ -351,9 +341,34 @@ fn long_spans_across_wraps() {
             }
             assert!(held.events < 1_000_000, "H {history} does not get on");
         }
-        held.model.holds(&held.state, true);
-        assert_eq!(held.state.counters.resets, 0);
+        held.model.closes(true);
+        assert_eq!(held.model.counted.resets, 0);
         events += held.events;
     }
     report("events in spans over two wraps, every H", events);
+}
+
+/// Streams that lose nothing, by two paths: the window fills, whatever its length, and stays full.
+#[test]
+fn streams_without_a_gap() {
+    let mut random = Random::new(SEED + 2);
+    let mut events = 0;
+    for history in 2..=64 {
+        let mut held = Held::fresh(random_setup(&mut random, VECTOR, history));
+        for number in 65_436..65_636u32 {
+            let packet = Event::Packet(Some(number as u16));
+            for event in [packet, packet, Event::LatentTest] {
+                held.event(event, 1);
+            }
+        }
+        let counted = held.model.counted;
+        assert_eq!((counted.passed, counted.discarded), (200, 200));
+        assert_eq!((counted.order, counted.rogue), (0, 0));
+        assert_eq!(counted.lost, u64::from(history) - 1, "the places before the first");
+        for event in [Event::LatentReset, Event::Reset, Event::Packet(Some(7))] {
+            held.event(event, 1);
+        }
+        events += held.events;
+    }
+    report("events in streams without a gap, every H", events);
 }

@@ -1,5 +1,7 @@
-//! "Numbering and recovery": setups and states on both sides of every bound.
+//! "Numbering and recovery": setups and states on both sides of every bound. Every version is asked.
 
+use ahozurime_sys::{AHZ_DONE, AHZ_R_STATE};
+use compare::layers::{check_setup, event, events, fresh, Event};
 use compare::plain::recovery::{Counters, Milliseconds, Setup, State, Ticks, MATCH, VECTOR};
 
 const SETUP: Setup = Setup {
@@ -12,36 +14,36 @@ const SETUP: Setup = Setup {
     difference: 1,
 };
 
-/// Every step and test, on a value and in place, has to refuse 14 and leave the state as it was.
+/// Every event is refused by 14 and leaves the state as it was; so is the plain version's step on a
+/// value.
 fn refused(state: State) {
     assert!(!state.is_sound(), "{state:?}");
-    for number in [None, Some(0), Some(state.newest)] {
-        assert_eq!(state.packet(number), Err(14), "{state:?}");
+    for asked in [events(0), events(state.newest)].concat() {
+        assert_eq!(event(&state, asked), (AHZ_R_STATE, state), "{asked:?}");
     }
+    assert_eq!(state.packet(None), Err(14));
     assert_eq!(state.tick(), Err(14));
     assert_eq!(state.reset(), Err(14));
     assert_eq!(state.latent_reset(), Err(14));
-    assert_eq!(state.latent_test(), Err(14));
-    let mut kept = state;
-    assert_eq!(kept.packet_in_place(Some(0)), Err(14));
-    assert_eq!(kept.packet_in_place(None), Err(14));
-    assert_eq!(kept.tick_in_place(), Err(14));
-    assert_eq!(kept.reset_in_place(), Err(14));
-    assert_eq!(kept.latent_reset_in_place(), Err(14));
-    assert_eq!(kept, state);
 }
 
-/// Every step hands back a sound state.
+/// Every event is answered and hands back a sound state; the plain version's step on a value, the
+/// same one.
 fn accepted(state: State) {
     assert!(state.is_sound(), "{state:?}");
+    let after = |asked| {
+        let (answer, next) = event(&state, asked);
+        assert!(answer != AHZ_R_STATE && next.is_sound(), "{asked:?} at {state:?}: {next:?}");
+        next
+    };
     for number in [None, Some(0), Some(state.newest), Some(state.newest.wrapping_add(1))] {
-        let (next, _) = state.packet(number).expect("a sound state");
-        assert!(next.is_sound(), "{state:?} to {next:?}");
+        let next = after(Event::Packet(number));
+        assert_eq!(state.packet(number).map(|(next, _)| next), Ok(next));
     }
-    assert!(state.tick().is_ok_and(|(next, _)| next.is_sound()));
-    assert!(state.reset().is_ok_and(|next| next.is_sound()));
-    assert!(state.latent_reset().is_ok_and(|next| next.is_sound()));
-    assert!(state.latent_test().is_ok());
+    assert_eq!(state.tick().map(|(next, _)| next), Ok(after(Event::Tick)));
+    assert_eq!(state.reset(), Ok(after(Event::Reset)));
+    assert_eq!(state.latent_reset(), Ok(after(Event::LatentReset)));
+    assert_eq!(after(Event::LatentTest), state);
 }
 
 /// Setups that are out of range in one field, each with its number, in the order of the checks.
@@ -58,14 +60,15 @@ fn one_out_of_range() -> Vec<(Setup, u8)> {
     bad
 }
 
+/// A bad setup has its own number by itself and 14 inside a state; one at its bounds has neither.
 #[test]
 fn a_setup_by_itself_and_inside_a_state() {
     for rule in [VECTOR, MATCH] {
         for (setup, number) in one_out_of_range() {
             let setup = if number == 15 { setup } else { Setup { rule, ..setup } };
-            assert_eq!(setup.check(), Err(number), "{setup:?}");
-            assert_eq!(State::fresh(setup), Err(number));
-            refused(State { setup, ..State::fresh(SETUP).unwrap() });
+            assert_eq!(check_setup(&setup), Err(number), "{setup:?}");
+            assert_eq!(fresh(&setup), Err(number));
+            refused(State { setup, ..fresh(&SETUP).unwrap() });
         }
     }
     for (rule, taken, history, timeout, ticks_per_second, paths) in
@@ -75,12 +78,13 @@ fn a_setup_by_itself_and_inside_a_state() {
         for difference in [0, u32::MAX] {
             let setup =
                 Setup { rule, taken, history, timeout, ticks_per_second, paths, difference };
-            assert_eq!(setup.check(), Ok(()));
-            accepted(State::fresh(setup).unwrap());
+            assert_eq!(check_setup(&setup), Ok(()));
+            accepted(fresh(&setup).unwrap());
         }
     }
 }
 
+/// Of two bad fields, the one that is checked first decides.
 #[test]
 fn setup_checks_stand_in_order() {
     let bad = one_out_of_range();
@@ -103,17 +107,19 @@ fn setup_checks_stand_in_order() {
                 paths: if first.paths == 2 { second.paths } else { first.paths },
                 difference: 0,
             };
-            let numbers = [first.check().unwrap_err(), second.check().unwrap_err()];
+            let numbers = [*number, check_setup(second).unwrap_err()];
             let place = |number| [15, 27, 16, 17, 18, 19].iter().position(|&n| n == number);
             let expected = numbers.into_iter().min_by_key(|&number| place(number)).unwrap();
-            assert_eq!(both.check(), Err(expected), "{both:?}");
+            assert_eq!(check_setup(&both), Err(expected), "{both:?}");
+            assert_eq!(fresh(&both), Err(expected), "{both:?}");
         }
     }
 }
 
+/// A fresh state, field by field; a reset gives it back but for counters, base and setup.
 #[test]
 fn fresh_and_reset() {
-    let fresh = State::fresh(SETUP).unwrap();
+    let fresh = fresh(&SETUP).unwrap();
     let expected = State {
         setup: SETUP,
         newest: 65_535,
@@ -136,12 +142,14 @@ fn fresh_and_reset() {
         ..fresh
     };
     let counters = Counters { resets: 0, ..counters };
-    assert_eq!(used.reset(), Ok(State { counters, base: -5, ..fresh }));
+    let reset = State { counters, base: -5, ..fresh };
+    assert_eq!(event(&used, Event::Reset), (AHZ_DONE, reset));
 }
 
+/// Each sentence of "Sound state" on both sides, every mark under every H among them.
 #[test]
 fn unsound_in_each_respect() {
-    let fresh = State::fresh(SETUP).unwrap();
+    let fresh = fresh(&SETUP).unwrap();
     // Take-any: newest 65,535, no mark, ticks up to full.
     accepted(State { ticks_left: Ticks(10), ..fresh });
     refused(State { ticks_left: Ticks(11), ..fresh });

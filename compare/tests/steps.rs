@@ -1,12 +1,14 @@
 //! "Numbering and recovery": the generator, the timer, the marks moved one place at a time,
-//! counters and the latent figure at the ends of 64 bits.
+//! counters and the latent figure at the ends of 64 bits. Every version is asked.
 
 mod common;
 
-use common::report;
-use compare::plain::recovery::{
-    Counters, Generator, Milliseconds, Setup, State, Ticks, Verdict, VECTOR,
+use ahozurime_sys::{
+    AHZ_DISCARD, AHZ_DONE, AHZ_LATENT_ERROR, AHZ_LATENT_OK, AHZ_PASS, AHZ_RESET, AHZ_TICK,
 };
+use common::report;
+use compare::layers::{event, generate, generator_reset, Event};
+use compare::plain::recovery::{Counters, Milliseconds, Setup, State, Ticks, VECTOR};
 use compare::random::{Random, SEED};
 
 const SETUP: Setup = Setup {
@@ -19,43 +21,51 @@ const SETUP: Setup = Setup {
     difference: 1,
 };
 
-#[test]
-fn the_generator_wraps() {
-    let mut generator = Generator::default();
-    for round in 0..140_000u32 {
-        let (number, next) = generator.next();
-        assert_eq!(u32::from(number), round % 65_536);
-        generator = next;
-    }
-    assert_eq!(generator.reset(), Generator { number: 0 });
-    assert_eq!(Generator { number: 65_535 }.next(), (65_535, Generator { number: 0 }));
+fn packet(state: &State, number: Option<u16>) -> (u8, State) {
+    event(state, Event::Packet(number))
 }
 
+/// "65,535 going to 0", twice round; a reset sets 0.
+#[test]
+fn the_generator_wraps() {
+    let mut generator = 0;
+    for round in 0..140_000u32 {
+        let number;
+        (number, generator) = generate(generator);
+        assert_eq!(u32::from(number), round % 65_536);
+    }
+    assert_eq!(generator_reset(generator), 0);
+    assert_eq!(generate(65_535), (65_535, 0));
+}
+
+/// What starts the timer, what leaves it alone, and what its end does.
 #[test]
 fn the_timer() {
     let setup = Setup { taken: 1, ..SETUP };
     // A packet without a number that passed starts the timer though any number is still taken.
-    let (mut state, verdict) = State::fresh(setup).unwrap().packet(None).unwrap();
-    assert_eq!((verdict, state.ticks_left, state.take_any), (Verdict::Pass, Ticks(10), true));
-    for left in (1..10).rev() {
-        assert_eq!(state.tick_in_place(), Ok(false));
-        assert_eq!(state.ticks_left, Ticks(left));
+    let (answer, mut state) = packet(&State::fresh(setup).unwrap(), None);
+    assert_eq!((answer, state.ticks_left, state.take_any), (AHZ_PASS, Ticks(10), true));
+    for left in (0..10).rev() {
+        let answer;
+        (answer, state) = event(&state, Event::Tick);
+        let expected = if left == 0 { AHZ_RESET } else { AHZ_TICK };
+        assert_eq!((answer, state.ticks_left), (expected, Ticks(left)));
     }
-    assert_eq!(state.tick_in_place(), Ok(true));
-    assert_eq!((state.ticks_left, state.counters.resets), (Ticks(0), 1));
-    assert_eq!(state.tick(), Ok((state, false)), "0 stays 0");
+    assert_eq!(state.counters.resets, 1);
+    assert_eq!(event(&state, Event::Tick), (AHZ_TICK, state), "0 stays 0");
     // A discarded packet leaves the timer alone, and a timeout lets the next number in.
-    let (state, _) = state.packet(Some(5)).unwrap();
-    let (state, _) = state.tick().unwrap();
+    let (_, state) = packet(&state, Some(5));
+    let (_, state) = event(&state, Event::Tick);
     for number in [Some(5), Some(5_000)] {
-        let (state, verdict) = state.packet(number).unwrap();
-        assert_eq!((verdict, state.ticks_left), (Verdict::Discard, Ticks(9)));
+        let (answer, state) = packet(&state, number);
+        assert_eq!((answer, state.ticks_left), (AHZ_DISCARD, Ticks(9)));
     }
     let state = State { setup: Setup { taken: 0, ..setup }, ..state };
-    let (state, verdict) = state.packet(None).unwrap();
-    assert_eq!((verdict, state.ticks_left), (Verdict::Discard, Ticks(9)));
-    let (state, timed_out) = State { ticks_left: Ticks(1), ..state }.tick().unwrap();
-    assert_eq!((timed_out, state.take_any, state.newest, state.marks), (true, true, 65_535, 0));
+    let (answer, state) = packet(&state, None);
+    assert_eq!((answer, state.ticks_left), (AHZ_DISCARD, Ticks(9)));
+    let (answer, state) = event(&State { ticks_left: Ticks(1), ..state }, Event::Tick);
+    assert_eq!((answer, state.take_any), (AHZ_RESET, true));
+    assert_eq!((state.newest, state.marks), (65_535, 0));
 }
 
 /// The marks as a row of places, moved as 01 and 002 clause 7.4.3.6 say: one at a time.
@@ -72,6 +82,7 @@ fn moved(marks: u64, history: u16, d: u32) -> (u64, u64) {
     (marks, lost)
 }
 
+/// Every slide under every H against marks moved one by one; full windows too.
 #[test]
 fn marks_move_one_place_at_a_time() {
     let mut random = Random::new(SEED);
@@ -104,7 +115,7 @@ fn marks_move_one_place_at_a_time() {
                     counters,
                     ..state
                 };
-                assert_eq!(state.packet(Some(number)), Ok((next, Verdict::Pass)));
+                assert_eq!(packet(&state, Some(number)), (AHZ_PASS, next));
                 cases += 1;
             }
         }
@@ -112,6 +123,7 @@ fn marks_move_one_place_at_a_time() {
     report("slides", cases);
 }
 
+/// Every counter goes from 2^64 - 1 to 0.
 #[test]
 fn counters_wrap() {
     let full = Counters {
@@ -126,7 +138,7 @@ fn counters_wrap() {
     };
     let state = State { counters: full, ..State::fresh(SETUP).unwrap() };
     let after = |numbers: &[Option<u16>]| {
-        let step = |state: State, number: &Option<u16>| state.packet(*number).unwrap().0;
+        let step = |state: State, number: &Option<u16>| packet(&state, *number).1;
         numbers.iter().fold(state, step).counters
     };
     assert_eq!(after(&[Some(10)]), Counters { passed: 0, ..full });
@@ -136,8 +148,10 @@ fn counters_wrap() {
         Counters { passed: 0, discarded: 0, rogue: 0, ..full }
     );
     assert_eq!(after(&[Some(10), Some(13)]), Counters { passed: 1, order: 0, lost: 2, ..full });
-    assert_eq!(state.reset().unwrap().counters, Counters { resets: 0, ..full });
-    assert_eq!(state.latent_reset().unwrap().counters, Counters { latent_resets: 0, ..full });
+    let (_, reset) = event(&state, Event::Reset);
+    assert_eq!(reset.counters, Counters { resets: 0, ..full });
+    let (_, reset) = event(&state, Event::LatentReset);
+    assert_eq!(reset.counters, Counters { latent_resets: 0, ..full });
 }
 
 /// The test's bound in 128 bits: the figure and the difference brought into 64 signed bits by hand.
@@ -155,6 +169,7 @@ fn latent_error(state: &State) -> bool {
     wrapped(i128::from(state.base) - figure).abs() > i128::from(state.setup.difference)
 }
 
+/// The test and the reset about every end of 64 bits.
 #[test]
 fn the_latent_figure() {
     let mut random = Random::new(SEED);
@@ -174,18 +189,19 @@ fn the_latent_figure() {
         let base = near(&mut random) as i64;
         let state = State { base, counters, ..State::fresh(setup).unwrap() };
         let error = latent_error(&state);
-        assert_eq!(state.latent_test(), Ok(error), "{state:?}");
-        let reset = state.latent_reset().unwrap();
-        assert_eq!(reset.latent_test(), Ok(false));
+        let answer = if error { AHZ_LATENT_ERROR } else { AHZ_LATENT_OK };
+        assert_eq!(event(&state, Event::LatentTest), (answer, state), "{state:?}");
+        let (answer, reset) = event(&state, Event::LatentReset);
         let base = reset.base;
         let counters = Counters { latent_resets: 1, ..counters };
-        assert_eq!(reset, State { base, counters, ..state });
+        assert_eq!((answer, reset), (AHZ_DONE, State { base, counters, ..state }));
+        assert_eq!(event(&reset, Event::LatentTest), (AHZ_LATENT_OK, reset));
         cases += 1;
         errors += u64::from(error);
     }
     assert!(errors > cases / 20 && errors < cases, "both answers were wanted: {errors}");
     // The one difference whose absolute value needs the 64th bit.
     let state = State { base: i64::MIN, ..State::fresh(SETUP).unwrap() };
-    assert_eq!(state.latent_test(), Ok(true));
+    assert_eq!(event(&state, Event::LatentTest), (AHZ_LATENT_ERROR, state));
     report("latent tests", cases);
 }

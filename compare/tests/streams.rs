@@ -1,10 +1,10 @@
-//! "Stream tables": the order of the table's refusals, and the match, against one said in words.
+//! "Stream tables": the order of the table's refusals, and the match, against one said in words. Every
+//! version is asked.
 
 mod common;
 
 use common::report;
-use compare::plain::frame;
-use compare::plain::streams::{check_table, lookup};
+use compare::layers::{check_table, insert, lookup};
 use compare::random::{Random, SEED};
 
 #[derive(Clone, Copy, Debug)]
@@ -41,37 +41,43 @@ fn framed(destination: [u8; 6], source: [u8; 6], vlan: Option<u16>) -> Vec<u8> {
     octets
 }
 
+/// One more entry behind good ones, with each field in range and out of it, cut at every octet.
 #[test]
 fn each_entry_13_10_11_12() {
-    assert_eq!(check_table(&[]), Ok(()));
-    assert_eq!(check_table(&table(&[GOOD; 256])), Ok(()));
-    assert_eq!(check_table(&table(&[GOOD; 257])), Err(13));
-    for kind in [0, 3, 4, 255] {
-        let mut octets = table(&[GOOD; 2]);
-        octets[12] = kind;
-        assert_eq!(check_table(&octets), Err(10));
-        assert_eq!(
-            check_table(&octets[..13]),
-            Err(10),
-            "an unknown kind has no length to be cut at"
-        );
-    }
-    for (choice, vlan) in [(0, 0), (4, 0), (255, 5), (1, 4_095), (3, 4_096), (3, 65_535)] {
-        let bad = Entry { choice, vlan, ..GOOD };
-        assert_eq!(check_table(&table(&[GOOD, bad])), Err(12));
-        assert_eq!(check_table(&table(&[bad])[..11]), Err(11), "cut before out of range");
-        assert_eq!(check_table(&table(&[bad, Entry { kind: 9, ..GOOD }])), Err(12), "in order");
-    }
-    for (choice, vlan, handle) in [(1, 0, 0), (2, 4_094, 65_535), (3, 1, 1)] {
-        for kind in [1, 2] {
-            assert_eq!(
-                check_table(&table(&[Entry { kind, choice, vlan, handle, ..GOOD }])),
-                Ok(())
-            );
+    let mut cases = 0;
+    let in_range = [(1, 0), (2, 4_094), (3, 256)];
+    let out_of_range = [(0, 0), (4, 0), (255, 5), (1, 4_095), (3, 4_096), (2, 0xFF00), (3, 0xFFFF)];
+    for before in [0, 1, 2, 255, 256] {
+        assert_eq!(check_table(&table(&vec![GOOD; before])), Ok(()));
+        for kind in [0, 1, 2, 3, 4, 255] {
+            for (choice, vlan) in in_range.into_iter().chain(out_of_range) {
+                let mut entries = vec![GOOD; before];
+                entries.push(Entry { kind, choice, vlan, ..GOOD });
+                let octets = table(&entries);
+                for cut in 1..=12 {
+                    let expected = match cut {
+                        _ if before == 256 => Err(13),
+                        _ if !(1..=2).contains(&kind) => Err(10),
+                        1..12 => Err(11),
+                        _ if out_of_range.contains(&(choice, vlan)) => Err(12),
+                        _ => Ok(()),
+                    };
+                    let octets = &octets[..12 * before + cut];
+                    assert_eq!(check_table(octets), expected, "{cut} of {kind} {choice} {vlan}");
+                    cases += 1;
+                }
+                // What stands behind a bad entry does not matter.
+                entries.push(Entry { kind: 9, choice: 0, ..GOOD });
+                if let Err(refusal) = check_table(&octets) {
+                    assert_eq!(check_table(&table(&entries)), Err(refusal), "in order");
+                }
+            }
         }
     }
+    report("entries with each field good and bad, cut everywhere", cases);
 }
 
+/// 13 whatever the 257th entry holds, behind the refusals of those before it.
 #[test]
 fn the_257th_entry_is_refused_before_it_is_read() {
     for octets in [&[1][..], &[7], &[1, 2, 3], &[0; 12]] {
@@ -83,6 +89,7 @@ fn the_257th_entry_is_refused_before_it_is_read() {
     }
 }
 
+/// 10 to 13 before 1 to 5, and both before a match.
 #[test]
 fn the_table_is_refused_before_the_frame() {
     let bad = table(&[GOOD, Entry { choice: 4, ..GOOD }]);
@@ -95,6 +102,7 @@ fn the_table_is_refused_before_the_frame() {
     assert_eq!(lookup(&table(&[GOOD]), &match_first), Ok(Some(77)));
 }
 
+/// Good tables cut at every octet: 11 between entries, 13 behind 256.
 #[test]
 fn every_cut_of_a_table() {
     let mut cases = 0;
@@ -113,6 +121,7 @@ fn every_cut_of_a_table() {
     report("tables cut at every octet", cases);
 }
 
+/// Each choice with each kind of frame and entry VLAN, by destination and by source.
 #[test]
 fn choices_and_vlans() {
     let us = [9; 6];
@@ -155,6 +164,7 @@ fn fits(entry: &Entry, destination: [u8; 6], source: [u8; 6], vlan: Option<u16>)
         && (entry.vlan == 0 || entry.vlan == frames)
 }
 
+/// The first entry that fits gives the handle, with an R-TAG in the frame or without.
 #[test]
 fn the_first_match_decides() {
     let mut random = Random::new(SEED);
@@ -185,7 +195,7 @@ fn the_first_match_decides() {
             assert_eq!(lookup(&octets, &frame), Ok(expected));
             // A tag put in does not change the stream.
             let mut tagged = [0; 64];
-            let length = frame::insert(&frame, random.number(), &mut tagged).unwrap();
+            let length = insert(&frame, random.number(), &mut tagged).unwrap();
             assert_eq!(lookup(&octets, &tagged[..length]), Ok(expected));
             cases += 2;
             streams += u64::from(expected.is_some());

@@ -1,9 +1,10 @@
-//! "The bench tape": the paper's example octet for octet, every fault on both sides, every line.
+//! "The bench tape": the paper's example octet for octet, every fault on both sides, every line. Every
+//! version is asked.
 
 mod common;
 
 use common::report;
-use compare::plain::tape::{lines, run};
+use compare::layers::{lines, run};
 use compare::random::{Random, SEED};
 
 /// Setup (vector, 0, 4, 100, 100, 2, 1).
@@ -21,6 +22,7 @@ fn after_setup(events: &[u8]) -> String {
     printed(&[&SETUP, events].concat())
 }
 
+/// The paper's tape and its lines, octet for octet.
 #[test]
 fn the_papers_tape() {
     let events = [1, 0, 10, 1, 0, 10, 1, 0, 12, 1, 0, 11, 1, 0, 20, 6];
@@ -29,11 +31,13 @@ fn the_papers_tape() {
     assert_eq!(after_setup(&events), expected);
 }
 
+/// The shortest tape without a fault.
 #[test]
 fn a_setup_alone() {
     assert_eq!(printed(&SETUP), format!("ok\n{NOTHING}"));
 }
 
+/// Each line that an event can print.
 #[test]
 fn every_line() {
     // Ten ticks are full: the tenth after a pass times out, the next finds nothing to count.
@@ -57,6 +61,7 @@ fn every_line() {
     );
 }
 
+/// The taken flag of a setup decides on packets without a number.
 #[test]
 fn packets_without_a_number_may_be_taken() {
     let mut tape = SETUP.to_vec();
@@ -65,6 +70,7 @@ fn packets_without_a_number_may_be_taken() {
     assert!(printed(&tape).starts_with("ok\npass\ntick\ntick\npassed=1 discarded=0"));
 }
 
+/// 23, 24, 25 for each event, in this order.
 #[test]
 fn faults_of_the_tape() {
     assert_eq!(printed(&[]), "fault 25\n");
@@ -88,6 +94,7 @@ fn faults_of_the_tape() {
     assert_eq!(after_setup(&[3, 4, 1, 0, 7, 0x0F]), "ok\ntick\nreset\npass\nfault 24\n");
 }
 
+/// 15, 27, 16 to 19, in this order.
 #[test]
 fn faults_of_the_setup() {
     // Each field just out of range, from the last one checked to the first, so that each hides
@@ -108,6 +115,7 @@ fn faults_of_the_setup() {
     assert_eq!(printed(&[&tape[..], &[0xFF]].concat()), "fault 15\n", "left to right");
 }
 
+/// 4,096 octets run; one more is 26, before all else.
 #[test]
 fn the_longest_tape() {
     let mut tape = SETUP.to_vec();
@@ -118,6 +126,7 @@ fn the_longest_tape() {
     assert_eq!(printed(&[0xFF; 5_000]), "fault 26\n", "26 before all else");
 }
 
+/// 8 where the output is too short, which then stays; later octets always stay.
 #[test]
 fn a_lent_buffer() {
     let mut random = Random::new(SEED);

@@ -1,26 +1,31 @@
 //! The measures of docs/MEASURES.md: each call of the proved layer beside the plain version, on the
-//! same inputs, in nanoseconds.
+//! same inputs, in nanoseconds. What is printed is what stands there.
 //!
-//! A round runs one version many times; rounds alternate between the two, and each figure is the
-//! median of its rounds. A call of the archive is never inlined, so the plain version is called
-//! through functions that are not inlined either. No buffer is cleared in between.
+//! A round runs one version many times; rounds alternate between the two, and a figure is the median
+//! of its rounds. All figures are taken so five times over; of the five, a row has the one whose
+//! ratio is in the middle, and the least and the greatest ratio.
+//!
+//! A call of the archive is never inlined, so the plain version is called through functions that are
+//! not inlined either. `black_box` stands around every argument of both, so that the compiler knows
+//! nothing of a frame, a number, a table, a state or a buffer. No buffer is cleared in between.
 
-use compare::plain;
-use compare::plain::cards::Calibration;
-use compare::plain::recovery::{Milliseconds, Setup, State};
-use compare::proved;
+use ahozurime as ours;
+use compare::{plain, words};
+use ours::recovery::{Rule, Verdict};
 use std::hint::black_box;
+use std::process::Command;
 use std::time::{Duration, Instant};
 
+const PASSES: usize = 5;
 const ROUNDS: usize = 61;
 const ROUND: Duration = Duration::from_micros(500);
 
 // The plain version, each call behind one call as the archive's are.
 mod called {
-    use super::*;
-    use compare::plain::cards::Volts;
-    use compare::plain::frame::Header;
-    use compare::plain::recovery::Verdict;
+    use compare::plain;
+    use plain::cards::{Calibration, Card, Volts};
+    use plain::frame::Header;
+    use plain::recovery::{Generator, State, Verdict};
 
     #[inline(never)]
     pub fn read(frame: &[u8]) -> Result<Header, u8> {
@@ -38,13 +43,20 @@ mod called {
     }
 
     #[inline(never)]
+    pub fn check_table(table: &[u8]) -> Result<(), u8> {
+        plain::streams::check_table(table)
+    }
+
+    #[inline(never)]
     pub fn lookup(table: &[u8], frame: &[u8]) -> Result<Option<u16>, u8> {
         plain::streams::lookup(table, frame)
     }
 
     #[inline(never)]
-    pub fn run(tape: &[u8], out: &mut [u8]) -> Result<usize, u8> {
-        plain::tape::run(tape, out)
+    pub fn generate(generator: &mut Generator) -> u16 {
+        let (number, next) = generator.next();
+        *generator = next;
+        number
     }
 
     #[inline(never)]
@@ -58,15 +70,49 @@ mod called {
     }
 
     #[inline(never)]
+    pub fn latent_test(state: &State) -> Result<bool, u8> {
+        state.latent_test()
+    }
+
+    #[inline(never)]
+    pub fn next(payload: &[u8]) -> Result<Card, u8> {
+        plain::cards::next(payload)
+    }
+
+    #[inline(never)]
     pub fn volts(payload: &[u8], calibration: Calibration) -> Result<Volts, u8> {
         plain::cards::volts(payload, calibration)
     }
+
+    #[inline(never)]
+    pub fn run(tape: &[u8], out: &mut [u8]) -> Result<usize, u8> {
+        plain::tape::run(tape, out)
+    }
 }
 
-/// So many calls, each with its answer used.
+/// A state or an output at the start of a cache line: where the two of a row lie would else be measured
+/// too.
+#[derive(Clone)]
+#[repr(align(64))]
+struct Lined<T>(T);
+
+/// Nanoseconds of one call, in one pass.
+struct Figure {
+    what: String,
+    ours: f64,
+    plain: f64,
+}
+
+impl Figure {
+    fn ratio(&self) -> f64 {
+        self.ours / self.plain
+    }
+}
+
+/// So many calls. Each answer is used where it lies: a copy of it is no part of the call.
 fn repeat<T>(times: u32, mut call: impl FnMut() -> T) {
     for _ in 0..times {
-        black_box(call());
+        black_box(&call());
     }
 }
 
@@ -82,26 +128,25 @@ fn median(mut figures: Vec<f64>) -> f64 {
     figures[figures.len() / 2]
 }
 
-/// The medians of the two, in nanoseconds. Each closure makes so many calls.
-fn both(ours: &mut dyn FnMut(u32), plain: &mut dyn FnMut(u32)) -> (f64, f64) {
-    let once = round(ours, 1_000).max(round(plain, 1_000)).max(0.1);
+/// The medians of the two. Each closure makes so many calls.
+fn both(what: impl Into<String>, mut ours: impl FnMut(u32), mut plain: impl FnMut(u32)) -> Figure {
+    let once = round(&mut ours, 1_000).max(round(&mut plain, 1_000)).max(0.1);
     let times = (ROUND.as_nanos() as f64 / once) as u32 + 1;
     let (mut of_ours, mut of_plain) = (Vec::new(), Vec::new());
     for _ in 0..ROUNDS {
-        of_ours.push(round(ours, times));
-        of_plain.push(round(plain, times));
+        of_ours.push(round(&mut ours, times));
+        of_plain.push(round(&mut plain, times));
     }
-    (median(of_ours), median(of_plain))
+    Figure { what: what.into(), ours: median(of_ours), plain: median(of_plain) }
 }
 
-fn row(what: &str, mut ours: impl FnMut(u32), mut plain: impl FnMut(u32)) {
-    let (a, b) = both(&mut ours, &mut plain);
-    println!("| {what} | {a:.1} | {b:.1} | {:.2} |", a / b);
-}
-
-/// A frame of so many octets, with an R-TAG or without.
-fn frame(octets: usize, stream: u8, tagged: bool) -> Vec<u8> {
+/// A frame of so many octets: a C-TAG where there is a VLAN, and an R-TAG or none.
+fn frame(octets: usize, stream: u8, vlan: Option<u16>, tagged: bool) -> Vec<u8> {
     let mut frame = vec![2, 0, 0, 0, 1, stream, 2, 0, 0, 0, 9, 9];
+    if let Some(vlan) = vlan {
+        frame.extend([0x81, 0x00]);
+        frame.extend(vlan.to_be_bytes());
+    }
     if tagged {
         frame.extend([0xF1, 0xC1, 0, 0, 1, 2]);
     }
@@ -116,210 +161,288 @@ fn table(entries: usize) -> Vec<u8> {
     (0..entries).flat_map(entry).collect()
 }
 
-fn setup(history: u16) -> Setup {
-    Setup {
-        rule: 0,
-        taken: 0,
+/// Both states of one setup, after one packet, which has the number 10.
+fn begun(
+    rule: Rule,
+    history: u16,
+) -> (Lined<ours::recovery::State>, Lined<plain::recovery::State>) {
+    let setup = ours::recovery::Setup {
+        rule,
+        take_tagless: false,
         history,
-        timeout: Milliseconds(3_600_000),
-        ticks_per_second: 10_000,
+        timeout: ours::Milliseconds(3_600_000),
+        rate: ours::TicksPerSecond(10_000),
         paths: 2,
         difference: 1,
-    }
+    };
+    let mut ours = ours::recovery::State::fresh(&setup).expect("a setup in range");
+    let mut plain = plain::recovery::State::fresh(plain::recovery::Setup {
+        rule: if rule == Rule::Vector { plain::recovery::VECTOR } else { plain::recovery::MATCH },
+        taken: setup.take_tagless.into(),
+        history,
+        timeout: plain::recovery::Milliseconds(setup.timeout.0),
+        ticks_per_second: setup.rate.0,
+        paths: setup.paths,
+        difference: setup.difference,
+    })
+    .expect("a setup in range");
+    assert_eq!(ours.hear(Some(10)), Ok(Verdict::Pass));
+    assert_eq!(plain.packet_in_place(Some(10)), Ok(plain::recovery::Verdict::Pass));
+    assert_eq!(*ours.words(), words::of_state(&plain));
+    (Lined(ours), Lined(plain))
 }
 
-fn begun(history: u16, numbers: &[u16]) -> (proved::recovery::State, State) {
-    let mut state = State::fresh(setup(history)).expect("a setup in range");
-    for &number in numbers {
-        state.packet_in_place(Some(number)).expect("a sound state");
-    }
-    (proved::recovery::State::from(&state), state)
-}
-
-fn frames() {
-    for octets in [64, 1_500] {
-        let (bare, tagged) = (frame(octets, 7, false), frame(octets, 7, true));
-        let mut out = vec![0; 1_522];
-        row(
-            &format!("read, {octets} octets"),
-            |times| repeat(times, || proved::frame::read(black_box(&tagged))),
-            |times| repeat(times, || called::read(black_box(&tagged))),
-        );
-        let mut other = out.clone();
-        row(
-            &format!("insert, {octets} octets"),
+fn frames(figures: &mut Vec<Figure>) {
+    for (what, octets, vlan) in
+        [("64 octets", 64, None), ("64 octets, C-TAG", 64, Some(5)), ("1500 octets", 1_500, None)]
+    {
+        let (bare, tagged) = (frame(octets, 7, vlan, false), frame(octets, 7, vlan, true));
+        let (bare, tagged) = (&bare[..], &tagged[..]);
+        let (mut out, mut other) = (Lined([0; 1_522]), Lined([0; 1_522]));
+        figures.push(both(
+            format!("read, {what}"),
+            |times| repeat(times, || ours::frame::read(black_box(tagged))),
+            |times| repeat(times, || called::read(black_box(tagged))),
+        ));
+        figures.push(both(
+            format!("insert, {what}"),
             |times| {
-                repeat(times, || proved::frame::insert(black_box(&bare), 258, black_box(&mut out)))
+                repeat(times, || {
+                    ours::frame::insert(black_box(bare), black_box(258), black_box(&mut out.0[..]))
+                })
             },
-            |times| repeat(times, || called::insert(black_box(&bare), 258, black_box(&mut other))),
-        );
-        row(
-            &format!("remove, {octets} octets"),
             |times| {
-                repeat(times, || proved::frame::remove(black_box(&tagged), black_box(&mut out)))
+                repeat(times, || {
+                    called::insert(black_box(bare), black_box(258), black_box(&mut other.0[..]))
+                })
             },
-            |times| repeat(times, || called::remove(black_box(&tagged), black_box(&mut other))),
-        );
+        ));
+        figures.push(both(
+            format!("remove, {what}"),
+            |times| {
+                repeat(times, || ours::frame::remove(black_box(tagged), black_box(&mut out.0[..])))
+            },
+            |times| {
+                repeat(times, || called::remove(black_box(tagged), black_box(&mut other.0[..])))
+            },
+        ));
     }
 }
 
-fn lookups() {
-    for entries in [1usize, 16, 256] {
+fn lookups(figures: &mut Vec<Figure>) {
+    for entries in [1, 16, 256] {
         let table = table(entries);
-        let mut miss = frame(64, 7, false);
+        let table = &table[..];
+        let hit = frame(64, (entries - 1) as u8, None, true);
+        let mut miss = hit.clone();
         miss[0] = 4;
-        for (what, frame) in
-            [("hit at the end", frame(64, (entries - 1) as u8, false)), ("miss", miss)]
-        {
-            row(
-                &format!("lookup, {entries} entries, {what}"),
-                |times| {
-                    repeat(times, || proved::streams::lookup(black_box(&table), black_box(&frame)))
-                },
-                |times| repeat(times, || called::lookup(black_box(&table), black_box(&frame))),
-            );
+        for (what, frame) in [("hit at the end", &hit[..]), ("miss", &miss[..])] {
+            figures.push(both(
+                format!("lookup, {entries} entries, {what}"),
+                |times| repeat(times, || ours::streams::lookup(black_box(table), black_box(frame))),
+                |times| repeat(times, || called::lookup(black_box(table), black_box(frame))),
+            ));
         }
     }
+    let table = table(256);
+    let table = &table[..];
+    figures.push(both(
+        "check of a table, 256 entries",
+        |times| repeat(times, || ours::streams::check_table(black_box(table))),
+        |times| repeat(times, || called::check_table(black_box(table))),
+    ));
 }
 
-/// A step whose number is so far from the one before.
-fn step(what: &str, history: u16, far: u16) {
-    let (mut ours, mut plain) = begun(history, &[10]);
-    let (mut a, mut b) = (10u16, 10u16);
-    row(
+/// Packets on one state: the first number lies so far from 10, and then each so far from the one
+/// before, the two distances in turn.
+fn step(what: &str, rule: Rule, history: u16, first: u16, far: [u16; 2]) -> Figure {
+    let (mut ours, mut plain) = begun(rule, history);
+    let (mut a, mut b) = (10 + first, 10 + first);
+    let (mut i, mut j) = (0, 0);
+    both(
         what,
         |times| {
-            for _ in 0..times {
-                a = a.wrapping_add(far);
-                black_box(ours.packet(black_box(Some(a)))).unwrap();
-            }
+            repeat(times, || {
+                let number = a;
+                a = a.wrapping_add(far[i % 2]);
+                i += 1;
+                black_box(&mut ours.0).hear(black_box(Some(number)))
+            })
         },
         |times| {
-            for _ in 0..times {
-                b = b.wrapping_add(far);
-                black_box(called::packet(&mut plain, black_box(Some(b)))).unwrap();
-            }
+            repeat(times, || {
+                let number = b;
+                b = b.wrapping_add(far[j % 2]);
+                j += 1;
+                called::packet(black_box(&mut plain.0), black_box(Some(number)))
+            })
         },
-    );
+    )
 }
 
-fn steps() {
-    step("step in order, H 64", 64, 1);
-    let (late, plain_late) = begun(64, &[10, 13]);
-    let (mut ours, mut plain) = (late, plain_late);
-    row(
-        "step late, H 64 (with a copy of the state)",
-        |times| {
-            for _ in 0..times {
-                ours = black_box(late);
-                black_box(ours.packet(black_box(Some(11)))).unwrap();
-            }
-        },
-        |times| {
-            for _ in 0..times {
-                plain = black_box(plain_late);
-                black_box(called::packet(&mut plain, black_box(Some(11)))).unwrap();
-            }
-        },
-    );
-    step("step duplicate, H 64", 64, 0);
-    let (mut ours, mut plain) = begun(64, &[10]);
-    row(
-        "step rogue, H 64",
-        |times| repeat(times, || ours.packet(black_box(Some(20_000)))),
-        |times| repeat(times, || called::packet(&mut plain, black_box(Some(20_000)))),
-    );
-    step("step with a slide of 3, H 4", 4, 3);
-    step("step with a slide of 63, H 64", 64, 63);
-    let (mut ours, mut plain) = begun(64, &[10]);
-    row(
+fn steps(figures: &mut Vec<Figure>) {
+    let (vector, back) = (Rule::Vector, 1u16.wrapping_neg());
+    figures.push(step("step in order, H 64", vector, 64, 1, [1, 1]));
+    figures.push(step("step, 2 ahead and 1 late in turn, H 64", vector, 64, 2, [back, 3]));
+    figures.push(step("step duplicate, H 64", vector, 64, 0, [0, 0]));
+    figures.push(step("step rogue, H 64", vector, 64, 20_000, [0, 0]));
+    figures.push(step("step with a slide of 3, H 4", vector, 4, 3, [3, 3]));
+    figures.push(step("step with a slide of 63, H 64", vector, 64, 63, [63, 63]));
+    figures.push(step("step in order, match", Rule::Match, 64, 1, [1, 1]));
+    let (mut ours, mut plain) = begun(vector, 64);
+    let none = black_box(None);
+    figures.push(both(
+        "step without a number",
+        |times| repeat(times, || black_box(&mut ours.0).hear(black_box(none))),
+        |times| repeat(times, || called::packet(black_box(&mut plain.0), black_box(none))),
+    ));
+    figures.push(both(
         "tick",
-        |times| repeat(times, || ours.tick()),
-        |times| repeat(times, || called::tick(&mut plain)),
-    );
+        |times| repeat(times, || black_box(&mut ours.0).tick()),
+        |times| repeat(times, || called::tick(black_box(&mut plain.0))),
+    ));
+    figures.push(both(
+        "latent test",
+        |times| repeat(times, || black_box(&ours.0).latent_test()),
+        |times| repeat(times, || called::latent_test(black_box(&plain.0))),
+    ));
+    let (mut ours, mut plain) =
+        (ours::recovery::Generator::fresh(), plain::recovery::Generator::default());
+    figures.push(both(
+        "generator",
+        |times| repeat(times, || black_box(&mut ours).generate()),
+        |times| repeat(times, || called::generate(black_box(&mut plain))),
+    ));
 }
 
-fn cards() {
-    let fair = Calibration { gain: 0.25, offset: 0.5 };
-    for (what, payload) in [("raw code", [0x11, 0, 10]), ("millivolts", [0x12, 0, 10])] {
-        row(
-            &format!("card, {what}"),
-            |times| repeat(times, || proved::cards::volts(black_box(&payload), black_box(fair))),
-            |times| repeat(times, || called::volts(black_box(&payload), black_box(fair))),
-        );
+fn cards(figures: &mut Vec<Figure>) {
+    let fair = ours::cards::Calibration { gain: 0.25, offset: 0.5 };
+    let plain_fair = plain::cards::Calibration { gain: fair.gain, offset: fair.offset };
+    let (raw, millivolts) = (&[0x11, 0, 10][..], &[0x12, 0, 10][..]);
+    figures.push(both(
+        "card",
+        |times| repeat(times, || ours::cards::next(black_box(raw))),
+        |times| repeat(times, || called::next(black_box(raw))),
+    ));
+    for (what, payload) in [("raw code", raw), ("millivolts", millivolts)] {
+        figures.push(both(
+            format!("volts, {what}"),
+            |times| repeat(times, || ours::cards::volts(black_box(payload), black_box(fair))),
+            |times| repeat(times, || called::volts(black_box(payload), black_box(plain_fair))),
+        ));
     }
 }
 
 /// A tape of 4,096 octets: a setup and packets in order.
-fn tape() {
+fn tape(figures: &mut Vec<Figure>) {
     let mut tape = vec![0x0F, 0, 0, 0, 64, 0, 0, 0, 100, 0, 100, 2, 0, 0, 0, 1];
     for number in 0..1_360u16 {
         tape.push(1);
         tape.extend(number.to_be_bytes());
     }
-    let mut ours = vec![0; proved::tape::OUTPUT];
-    let mut plain = vec![0; proved::tape::OUTPUT];
-    row(
-        &format!("tape of {} octets", tape.len()),
-        |times| repeat(times, || proved::tape::run(black_box(&tape), &mut ours)),
-        |times| repeat(times, || called::run(black_box(&tape), &mut plain)),
-    );
+    let tape = &tape[..];
+    let mut out = vec![0; ours::tape::OUTPUT];
+    let mut other = out.clone();
+    figures.push(both(
+        format!("tape of {} octets", tape.len()),
+        |times| repeat(times, || ours::tape::run(black_box(tape), black_box(&mut out[..]))),
+        |times| repeat(times, || called::run(black_box(tape), black_box(&mut other[..]))),
+    ));
 }
 
-/// The whole receive path on 64-octet frames, one after another from each stream: read, lookup,
-/// the stream's recovery step, and the tag taken off.
-fn receive(entries: usize) {
+/// The whole receive path on 64-octet frames, one after another from each stream: read, lookup, the
+/// stream's recovery step, and the tag taken off.
+fn receive(entries: usize) -> Figure {
     let table = table(entries);
-    let frames: Vec<Vec<u8>> = (0..entries).map(|i| frame(64, i as u8, true)).collect();
-    let (ours, plain) = begun(64, &[0]);
+    let table = &table[..];
+    let frames: Vec<Vec<u8>> = (0..entries).map(|i| frame(64, i as u8, None, true)).collect();
+    let (ours, plain) = begun(Rule::Vector, 64);
     let (mut ours, mut plain) = (vec![ours; entries], vec![plain; entries]);
     let (mut of_ours, mut of_plain) = (frames.clone(), frames);
-    let mut out = [0; 1_522];
-    let mut other = [0; 1_522];
-    let (mut a, mut b) = (0usize, 0usize);
-    let mut run_ours = |times: u32| {
-        for _ in 0..times {
-            let frame = &mut of_ours[a % entries];
-            frame[16..18].copy_from_slice(&((a / entries + 1) as u16).to_be_bytes());
-            let header = proved::frame::read(black_box(frame)).unwrap();
-            let handle = proved::streams::lookup(&table, frame).unwrap().unwrap();
-            let verdict = ours[usize::from(handle)].packet(header.number);
-            black_box(verdict).unwrap();
-            black_box(proved::frame::remove(frame, &mut out)).unwrap();
-            a += 1;
-        }
-    };
-    let mut run_plain = |times: u32| {
-        for _ in 0..times {
-            let frame = &mut of_plain[b % entries];
-            frame[16..18].copy_from_slice(&((b / entries + 1) as u16).to_be_bytes());
-            let header = called::read(black_box(frame)).unwrap();
-            let handle = called::lookup(&table, frame).unwrap().unwrap();
-            let verdict = called::packet(&mut plain[usize::from(handle)], header.number);
-            black_box(verdict).unwrap();
-            black_box(called::remove(frame, &mut other)).unwrap();
-            b += 1;
-        }
-    };
-    let (a, b) = both(&mut run_ours, &mut run_plain);
-    let million = |ns: f64| 1_000.0 / ns;
-    println!(
-        "| receive path, {entries} entries | {:.2} | {:.2} | {:.2} |",
-        million(a),
-        million(b),
-        a / b
-    );
+    let (mut out, mut other) = (Lined([0; 1_522]), Lined([0; 1_522]));
+    let (mut a, mut b) = (0, 0);
+    both(
+        format!("receive path, {entries} entries"),
+        |times| {
+            repeat(times, || {
+                let frame = &mut of_ours[a % entries][..];
+                frame[16..18].copy_from_slice(&((a / entries + 11) as u16).to_be_bytes());
+                a += 1;
+                let header = ours::frame::read(black_box(frame)).unwrap();
+                let handle = ours::streams::lookup(black_box(table), black_box(frame)).unwrap();
+                let state = &mut ours[usize::from(handle.unwrap().0)].0;
+                let verdict = black_box(state).hear(header.number).unwrap();
+                let length = ours::frame::remove(black_box(frame), black_box(&mut out.0[..]));
+                (verdict, length.unwrap())
+            })
+        },
+        |times| {
+            repeat(times, || {
+                let frame = &mut of_plain[b % entries][..];
+                frame[16..18].copy_from_slice(&((b / entries + 11) as u16).to_be_bytes());
+                b += 1;
+                let header = called::read(black_box(frame)).unwrap();
+                let handle = called::lookup(black_box(table), black_box(frame)).unwrap();
+                let state = &mut plain[usize::from(handle.unwrap())].0;
+                let verdict = called::packet(black_box(state), header.number).unwrap();
+                let length = called::remove(black_box(frame), black_box(&mut other.0[..]));
+                (verdict, length.unwrap())
+            })
+        },
+    )
+}
+
+fn calls() -> Vec<Figure> {
+    let mut figures = Vec::new();
+    frames(&mut figures);
+    lookups(&mut figures);
+    steps(&mut figures);
+    cards(&mut figures);
+    tape(&mut figures);
+    figures
+}
+
+fn paths() -> Vec<Figure> {
+    vec![receive(16), receive(256)]
+}
+
+/// A line for each figure, from the pass whose ratio is in the middle.
+fn print(title: &str, passes: &[Vec<Figure>], shown: impl Fn(f64) -> String) {
+    println!("\n| {title} | ratio of times | in five passes |\n|---|---|---|---|---|");
+    for row in 0..passes[0].len() {
+        let mut figures: Vec<&Figure> = passes.iter().map(|pass| &pass[row]).collect();
+        figures.sort_by(|a, b| a.ratio().total_cmp(&b.ratio()));
+        let middle = figures[PASSES / 2];
+        println!(
+            "| {} | {} | {} | {:.2} | {:.2} to {:.2} |",
+            middle.what,
+            shown(middle.ours),
+            shown(middle.plain),
+            middle.ratio(),
+            figures[0].ratio(),
+            figures[PASSES - 1].ratio(),
+        );
+    }
+}
+
+/// What stands behind the last colon of the first line that has the word, of all that a command says.
+fn says(command: &mut Command, word: &str) -> Option<String> {
+    let text = String::from_utf8(command.output().ok()?.stdout).ok()?;
+    let line = text.lines().find(|line| line.contains(word))?;
+    line.rsplit(':').next().map(|words| words.trim().to_owned())
 }
 
 fn main() {
-    println!("Machine: {} {}", std::env::consts::ARCH, std::env::consts::OS);
-    println!("\n| call | ours, ns | plain Rust, ns | ratio |\n|---|---|---|---|");
-    frames();
-    lookups();
-    steps();
-    cards();
-    tape();
-    println!("\n| path | ours, million frames a second | plain Rust | ratio of times |\n|---|---|---|---|");
-    receive(16);
-    receive(256);
+    println!(
+        "{}, {} {}; {}",
+        says(&mut Command::new("lscpu"), "Model name").as_deref().unwrap_or("processor unknown"),
+        std::env::consts::ARCH,
+        std::env::consts::OS,
+        says(Command::new("rustc").arg("--version"), "rustc").as_deref().unwrap_or("rustc unknown"),
+    );
+    let (calls, paths): (Vec<_>, Vec<_>) = (0..PASSES).map(|_| (calls(), paths())).unzip();
+    print("call | ours, ns | plain Rust, ns", &calls, |ns| format!("{ns:.1}"));
+    print("path | ours, million frames a second | plain Rust", &paths, |ns| {
+        format!("{:.2}", 1_000.0 / ns)
+    });
 }

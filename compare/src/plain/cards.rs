@@ -92,11 +92,16 @@ impl Calibration {
 #[inline]
 pub fn volts(payload: &[u8], calibration: Calibration) -> Result<Volts, u8> {
     calibration.check()?;
-    Ok(match next(payload)? {
-        Card::RawCode(raw) => {
-            Volts::FromRawCode(f64::from(raw) * calibration.gain + calibration.offset)
+    match *payload {
+        [RAW_CODE, high, low, ..] => {
+            let raw = f64::from(u16::from_be_bytes([high, low]));
+            Ok(Volts::FromRawCode(raw * calibration.gain + calibration.offset))
         }
-        Card::Millivolts(millivolts) => Volts::FromMillivolts(f64::from(millivolts) / 1000.0),
-        Card::FlushOrder(_) | Card::End => Volts::NotAReading,
-    })
+        [MILLIVOLTS, high, low, ..] => {
+            let millivolts = f64::from(u16::from_be_bytes([high, low]));
+            Ok(Volts::FromMillivolts(millivolts / 1000.0))
+        }
+        // An end, a flush order or a refusal.
+        _ => next(payload).map(|_| Volts::NotAReading),
+    }
 }

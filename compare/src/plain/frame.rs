@@ -79,6 +79,7 @@ fn tag(frame: &[u8], end: usize) -> Result<(u16, u16), u8> {
     Ok((be16(frame, end - 2), be16(frame, end)))
 }
 
+#[inline]
 fn six(frame: &[u8], at: usize) -> [u8; 6] {
     let mut address = [0; 6];
     address.copy_from_slice(&frame[at..at + 6]);

@@ -14,75 +14,58 @@ const PRIORITY: u8 = 2;
 const ALL: u8 = 3;
 const HIGHEST_VLAN: u16 = 4_094;
 
-/// An entry taken apart. Kind and address are one number: what a frame is compared with in one go.
-struct Entry {
-    key: u64,
-    choice: u8,
-    vlan: u16,
-    handle: u16,
+/// The whole entries of a table; a cut one at its end is none of them.
+#[inline]
+fn entries(table: &[u8]) -> impl Iterator<Item = &[u8; ENTRY_LENGTH]> {
+    table.chunks_exact(ENTRY_LENGTH).map(|octets| octets.try_into().expect("a whole entry"))
 }
 
-fn key(kind: u8, [a, b, c, d, e, f]: [u8; 6]) -> u64 {
-    u64::from_be_bytes([0, kind, a, b, c, d, e, f])
-}
-
+#[inline]
 fn is_kind(kind: u8) -> bool {
     matches!(kind, BY_DESTINATION | BY_SOURCE)
 }
 
-impl Entry {
-    fn new(octets: &[u8; ENTRY_LENGTH]) -> Entry {
-        let &[kind, a, b, c, d, e, f, choice, ..] = octets;
-        let head = u64::from_be_bytes([kind, a, b, c, d, e, f, choice]);
-        Entry {
-            key: head >> 8,
-            choice: head as u8,
-            vlan: be16(octets, 8),
-            handle: be16(octets, 10),
-        }
-    }
+/// An entry is taken as three words and not octet by octet, and the three comparisons are joined
+/// by `&`, without a jump: so the compiler checks several entries at once.
+#[inline]
+fn is_good(entry: &[u8; ENTRY_LENGTH]) -> bool {
+    let word = |at: usize| u32::from_be_bytes(entry[at..at + 4].try_into().expect("four octets"));
+    let (kind, choice, vlan) = ((word(0) >> 24) as u8, word(4) as u8, (word(8) >> 16) as u16);
+    is_kind(kind) & matches!(choice, TAGGED..=ALL) & (vlan <= HIGHEST_VLAN)
+}
 
-    fn kind(&self) -> u8 {
-        (self.key >> 48) as u8
-    }
-
-    /// Single `&`: three comparisons and no jump.
-    fn is_good(&self) -> bool {
-        is_kind(self.kind()) & matches!(self.choice, TAGGED..=ALL) & (self.vlan <= HIGHEST_VLAN)
-    }
-
-    /// 002 clauses 9.1.2.2 and 9.1.3.2.
-    fn allows(&self, header: &Header) -> bool {
-        match self.choice {
-            TAGGED => header.has_c_tag,
-            PRIORITY => !header.has_c_tag || header.vlan == 0,
-            _ => true,
-        }
-    }
-
-    /// "Its VLAN is 0 or equals the frame's": 0 in the entry ignores the frame's (002 clause
-    /// 9.1.2.3).
-    fn reaches(&self, header: &Header) -> bool {
-        self.vlan == 0 || self.vlan == header.vlan
-    }
+/// Whether a good entry matches the frame: its address, its choice (002 clauses 9.1.2.2 and
+/// 9.1.3.2), and "its VLAN is 0 or equals the frame's" (9.1.2.3).
+#[inline]
+fn matches(entry: &[u8; ENTRY_LENGTH], header: &Header) -> bool {
+    let address = match entry[0] {
+        BY_DESTINATION => entry[1..7] == header.destination,
+        _ => entry[1..7] == header.source,
+    };
+    let choice = || match entry[7] {
+        TAGGED => header.has_c_tag,
+        PRIORITY => !header.has_c_tag || header.vlan == 0,
+        _ => true,
+    };
+    let vlan = || [0, header.vlan].contains(&be16(entry, 8));
+    address && choice() && vlan()
 }
 
 /// Each entry in order: 13, 10, 11, 12. The 257th is refused as soon as its first octet is there,
 /// whatever that octet is; so its check stands behind those of the first 256.
 #[inline]
 pub fn check_table(table: &[u8]) -> Result<(), u8> {
-    let (entries, cut) = table.as_chunks::<ENTRY_LENGTH>();
-    let entries = &entries[..entries.len().min(MOST_ENTRIES)];
+    let (table, over) = table.split_at(table.len().min(MOST_ENTRIES * ENTRY_LENGTH));
     // A good table is walked to its end anyway, and faster with no way out at each entry; only a
     // bad one is walked again, to its first bad entry.
-    if !entries.iter().fold(true, |good, octets| good & Entry::new(octets).is_good()) {
-        let bad = entries.iter().map(Entry::new).find(|entry| !entry.is_good());
-        return Err(if bad.is_some_and(|entry| is_kind(entry.kind())) { 12 } else { 10 });
+    if !entries(table).fold(true, |good, entry| good & is_good(entry)) {
+        let bad = entries(table).find(|entry| !is_good(entry));
+        return Err(if bad.is_some_and(|entry| is_kind(entry[0])) { 12 } else { 10 });
     }
-    if table.len() > MOST_ENTRIES * ENTRY_LENGTH {
+    if !over.is_empty() {
         return Err(13);
     }
-    match cut.first() {
+    match table.chunks_exact(ENTRY_LENGTH).remainder().first() {
         None => Ok(()),
         Some(&kind) if is_kind(kind) => Err(11),
         Some(_) => Err(10),
@@ -95,13 +78,6 @@ pub fn check_table(table: &[u8]) -> Result<(), u8> {
 pub fn lookup(table: &[u8], frame: &[u8]) -> Result<Option<u16>, u8> {
     check_table(table)?;
     let header = frame::read(frame)?;
-    let by_destination = key(BY_DESTINATION, header.destination);
-    let by_source = key(BY_SOURCE, header.source);
-    let (entries, _) = table.as_chunks::<ENTRY_LENGTH>();
-    let first = entries.iter().map(Entry::new).find(|entry| {
-        (entry.key == by_destination || entry.key == by_source)
-            && entry.allows(&header)
-            && entry.reaches(&header)
-    });
-    Ok(first.map(|entry| entry.handle))
+    let first = entries(table).find(|entry| matches(entry, &header));
+    Ok(first.map(|entry| be16(entry, 10)))
 }

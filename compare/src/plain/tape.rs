@@ -6,6 +6,11 @@ use std::io::Write;
 
 pub const LONGEST: usize = 4_096;
 
+/// "latent reset" and its newline, which one octet asks for.
+const LONGEST_LINE: usize = 13;
+/// Eight counters of up to twenty digits with their names, or a fault: 231 octets at most.
+const LAST_LINE: usize = 256;
+
 const PACKET: u8 = 0x01;
 const NO_NUMBER: u8 = 0x02;
 const TICK: u8 = 0x03;
@@ -26,7 +31,7 @@ fn body_length(kind: u8) -> Option<usize> {
 /// The lines of a tape, each with its newline. Never a refusal: a fault is a line, and the last
 /// one.
 pub fn lines(tape: &[u8]) -> Vec<u8> {
-    let mut out = Vec::with_capacity(tape.len().min(LONGEST) * 8 + 256);
+    let mut out = Vec::with_capacity(tape.len().min(LONGEST) * LONGEST_LINE + LAST_LINE);
     match play(tape, &mut out) {
         Ok(counters) => put_counters(&mut out, &counters),
         Err(number) => put(&mut out, format_args!("fault {number}")),
@@ -57,15 +62,14 @@ fn play(tape: &[u8], out: &mut Vec<u8>) -> Result<Counters, u8> {
     while let Some((&kind, behind)) = rest.split_first() {
         let length = body_length(kind).ok_or(23)?;
         let (body, behind) = behind.split_at_checked(length).ok_or(24)?;
-        let line = match (kind, &mut state) {
+        match (kind, &mut state) {
             (SETUP, None) => {
                 state = Some(State::fresh(setup(body))?);
-                "ok\n"
+                out.extend_from_slice(b"ok\n");
             }
             (SETUP, Some(_)) | (_, None) => return Err(25),
-            (_, Some(state)) => event(state, kind, body)?,
-        };
-        out.extend_from_slice(line.as_bytes());
+            (_, Some(state)) => event(state, kind, body, out),
+        }
         rest = behind;
     }
     state.map(|state| state.counters).ok_or(25)
@@ -85,38 +89,32 @@ fn setup(body: &[u8]) -> Setup {
     }
 }
 
-/// One event after the setup, and its line.
-fn event(state: &mut State, kind: u8, body: &[u8]) -> Result<&'static str, u8> {
-    Ok(match kind {
-        PACKET => word(state.packet_in_place(Some(be16(body, 0)))?),
-        NO_NUMBER => word(state.packet_in_place(None)?),
-        TICK => timed(state.tick_in_place()?),
+/// One event after the setup, and its line. The state is the tape's own: fresh at first, so it is
+/// sound and stays so, and no event looks at that again.
+fn event(state: &mut State, kind: u8, body: &[u8], out: &mut Vec<u8>) {
+    match kind {
+        PACKET => put_verdict(out, state.hear(Some(be16(body, 0)))),
+        NO_NUMBER => put_verdict(out, state.hear(None)),
+        // "`reset` (04, and a tick that timed out)."
+        TICK if !state.count_down() => out.extend_from_slice(b"tick\n"),
+        TICK => out.extend_from_slice(b"reset\n"),
         RESET => {
-            state.reset_in_place()?;
-            "reset\n"
+            state.clear();
+            out.extend_from_slice(b"reset\n");
         }
         LATENT_RESET => {
-            state.latent_reset_in_place()?;
-            "latent reset\n"
+            state.rebase();
+            out.extend_from_slice(b"latent reset\n");
         }
-        _ if state.latent_test()? => "latent error\n",
-        _ => "latent ok\n",
-    })
-}
-
-/// "`reset` (04, and a tick that timed out)."
-fn timed(out: bool) -> &'static str {
-    if out {
-        "reset\n"
-    } else {
-        "tick\n"
+        _ if state.is_latent_error() => out.extend_from_slice(b"latent error\n"),
+        _ => out.extend_from_slice(b"latent ok\n"),
     }
 }
 
-fn word(verdict: Verdict) -> &'static str {
+fn put_verdict(out: &mut Vec<u8>, verdict: Verdict) {
     match verdict {
-        Verdict::Pass => "pass\n",
-        Verdict::Discard => "discard\n",
+        Verdict::Pass => out.extend_from_slice(b"pass\n"),
+        Verdict::Discard => out.extend_from_slice(b"discard\n"),
     }
 }
 

@@ -1,3 +1,3 @@
-pub mod HandedBack
+pub mod UnsoundStays
 pub mod NeverRefused
 pub mod Unique

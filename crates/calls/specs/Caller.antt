@@ -1,5 +1,5 @@
 -- A caller that only hands back what it was given: a list of calls, each on the state that the last one returned. The claims about it are
--- `SoundKept`, `NeverRefused` (proofs/NeverRefused) and `HandedBack` (proofs/HandedBack). Assumes nothing.
+-- `SoundKept`, `NeverRefused` (proofs/NeverRefused) and `UnsoundStays` (proofs/UnsoundStays). Assumes nothing.
 use Prim.Native.Nat.{ℕ}
 use mathlib.Core.Path.{_≡_}
 use mathlib.Core.Bool.{true, false}
@@ -49,5 +49,5 @@ NeverRefused =
     (setup : Setup) (s : State) → Begins setup (Ready s) → (calls : List Call) → refusals s calls ≡ map (λ (call : Call). 0) calls
 
 -- "state and buffers keep their values": a state that is not sound comes back as it was, whatever the call
-abbrev pub HandedBack : Type 0
-HandedBack = (s : State) → sound s ≡ false → (call : Call) → answered s call .state ≡ s
+abbrev pub UnsoundStays : Type 0
+UnsoundStays = (s : State) → sound s ≡ false → (call : Call) → answered s call .state ≡ s

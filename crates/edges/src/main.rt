@@ -60,7 +60,7 @@ fn hear_case(title: &[u8], rule: u8, history: u16, numbers: &[u16]) {
 fn ticks_case(title: &[u8], ms: u32, rate: u16) {
     io::write_all(STDOUT_FILENO, title);
     let ticks = Milliseconds(ms).ticks(rate);
-    answer(b"", ticks.0);
+    answer(b"", ticks.count());
 }
 
 // A word and a number.

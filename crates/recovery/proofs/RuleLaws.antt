@@ -6,7 +6,6 @@ use Rattle.recovery.specs.declared.State.{State}
 use Rattle.setup.specs.Range.{isVector}
 use Rattle.rules.specs.Vector.{vector}
 use Rattle.rules.specs.TakeAny.{first}
-use Rattle.rules.specs.Matching.{match}
 use Rattle.rules.specs.ByRule.{byRule}
 use Rattle.recovery.specs.Packets.{numbered}
 use Rattle.octets.proofs.Bools.{choose-first, choose-second}
@@ -20,7 +19,3 @@ module _ (s : State) (number : ℕ) where
       → numbered s number ≡ vector (s .setup .history) (s .newest) (s .marks) number
   unfolding numbered byRule
   by-vector e v = choose-second _ _ e ∙ choose-first _ _ v
-
-  pub by-match : s .«take_any» ≡ false → isVector (s .setup) ≡ false → numbered s number ≡ match (s .newest) (s .marks) number
-  unfolding numbered byRule
-  by-match e v = choose-second _ _ e ∙ choose-second _ _ v

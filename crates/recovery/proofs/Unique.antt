@@ -1,7 +1,12 @@
 -- Of each call, two answers that its promise allows are equal. Assumes nothing.
+use Prim.Native.Nat.{ℕ}
 use mathlib.Core.Path.{_≡_}
+use mathlib.Core.Bool.{Bool}
 use Rattle.octets.proofs.Unique.{one}
 use Rattle.setup.specs.declared.Setup.{Setup}
+use Rattle.marks.specs.declared.Marks.{Marks}
+use Rattle.counters.specs.declared.Counters.{Counters}
+use Rattle.recovery.specs.declared.Left.{Left}
 use Rattle.recovery.specs.declared.State.{State}
 use Rattle.recovery.specs.declared.Begun.{Begun}
 use Rattle.recovery.specs.declared.Packet.{Packet}
@@ -11,11 +16,19 @@ use Rattle.recovery.specs.declared.Changed.{Changed}
 use Rattle.recovery.specs.declared.Latent.{Latent}
 use Rattle.recovery.specs.Resets.{Begins, Resets}
 use Rattle.recovery.specs.Packets.{Hears}
-use Rattle.recovery.specs.Timer.{Times}
+use Rattle.recovery.specs.Timer.{Times, Remain}
+use Rattle.recovery.specs.Storage.{Stores}
 use Rattle.recovery.specs.LatentErrors.{LatentResets, LatentTests}
 
 pub begins-one : (setup : Setup) {a b : Begun} → Begins setup a → Begins setup b → a ≡ b
 begins-one setup = one
+
+pub remain-one : (left : Left) {a b : ℕ} → Remain left a → Remain left b → a ≡ b
+remain-one left = one
+
+pub stores-one : (setup : Setup) (newest : ℕ) (marks : Marks) (takeAny : Bool) (left : ℕ) (counters : Counters) (base : ℕ) {a b : State}
+    → Stores setup newest marks takeAny left counters base a → Stores setup newest marks takeAny left counters base b → a ≡ b
+stores-one setup newest marks takeAny left counters base = one
 
 module _ (s : State) where
   pub hears-one : (packet : Packet) {a b : Heard} → Hears s packet a → Hears s packet b → a ≡ b

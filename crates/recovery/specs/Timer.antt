@@ -3,9 +3,9 @@ use Prim.Native.Nat.{ℕ, _-_}
 use mathlib.Core.Path.{_≡_}
 use mathlib.Core.Bool.{Bool, cond}
 use lib.Dec.{eqb}
-use Rattle.setup.specs.declared.Ticks.{Ticks}
 use Rattle.setup.specs.declared.Setup.{Setup}
 use Rattle.setup.specs.Range.{fullOf}
+use Rattle.recovery.specs.declared.Left.{Left}
 use Rattle.recovery.specs.declared.State.{State}
 use Rattle.recovery.specs.declared.Timed.{Timed}
 use Rattle.recovery.specs.declared.Ticked.the-variants as ticked
@@ -13,8 +13,8 @@ use Rattle.recovery.specs.Soundness.{sound}
 use Rattle.recovery.specs.Resets.{resetState}
 
 -- "Only a passed packet sets ticks left to full ticks, whatever the use"
-unfoldable pub restarted : Bool → Setup → Ticks → Ticks
-restarted passes setup left = cond passes (fullOf setup) left
+unfoldable pub restarted : Bool → Setup → Left → Left
+restarted passes setup left = cond passes (record { 0 = fullOf setup .0 }) left
 
 -- the state with other ticks left
 abbrev pub withLeft : ℕ → State → State
@@ -42,6 +42,10 @@ timed s =
 unfoldable pub tickOf : State → Timed
 tickOf s = cond (sound s) (timed s) (record { ticked = ticked.Refused 14; state = s })
 
--- the promise of `State::tick`
+-- the promises: of `State::tick`
 abbrev pub Times : State → Timed → Type 0
 Times s r = r ≡ tickOf s
+
+-- of `Left::count`
+abbrev pub Remain : Left → ℕ → Type 0
+Remain left r = r ≡ left .0

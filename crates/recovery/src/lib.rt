@@ -5,12 +5,16 @@ mod latent_errors;
 mod packets;
 mod resets;
 mod soundness;
+mod storage;
 mod timer;
 
 use counters::Counters;
 use marks::Marks;
 use setup::Setup;
-use setup::Ticks;
+
+// Ticks left, which this room alone can make: they begin as the full ticks of a setup and go down one by one, and those of a stored state
+// come back with it (`State::stored`).
+pub struct Left(u64);
 
 pub struct State {
     pub setup: Setup,
@@ -18,8 +22,7 @@ pub struct State {
     // mark 0 is the newest
     pub marks: Marks,
     pub take_any: bool,
-    // ticks left
-    pub left: Ticks,
+    pub left: Left,
     pub counters: Counters,
     // the latent base, modulo 2^64
     pub base: u64,

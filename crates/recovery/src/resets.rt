@@ -4,16 +4,16 @@ ghost use Rattle.recovery.specs.Resets.{cleared, resetState, Begins, Res
 use crate::Begun;
 use crate::Change;
 use crate::Changed;
+use crate::Left;
 use crate::State;
 use counters::Counters;
 use setup::Setup;
-use setup::Ticks;
 
 // What fresh and reset have in common.
 fn clear(setup: Setup, counters: Counters, base: u64) -> State
     ensures { λ r. ⌜ r ≡ cleared setup counters base ⌝ }
 {
-    let left = Ticks(0);
+    let left = Left(0);
     let marks = marks::none();
     State {
         setup,

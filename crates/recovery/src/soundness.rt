@@ -51,7 +51,7 @@ impl State {
             self.take_any,
             self.newest,
             self.left.0,
-            full.0,
+            full.count(),
         )
     }
 }

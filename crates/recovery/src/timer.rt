@@ -1,17 +1,31 @@
 // The timer: the one rule by which a packet restarts it, and the tick.
 ghost use mathlib.Core.Path.{_≡_};
-ghost use Rattle.recovery.specs.Timer.{restarted, Times};
+ghost use Rattle.recovery.specs.Timer.{restarted, Remain, Times};
+use crate::Left;
 use crate::State;
 use crate::Ticked;
 use crate::Timed;
 use setup::Setup;
-use setup::Ticks;
 
 // Ticks left after a packet: only one that passes restarts the timer.
-pub(crate) fn left_after(passes: bool, setup: Setup, left: Ticks) -> Ticks
+pub(crate) fn left_after(passes: bool, setup: Setup, left: Left) -> Left
     ensures { λ r. ⌜ r ≡ restarted passes setup left ⌝ }
 {
-    if passes { setup.full() } else { left }
+    if passes {
+        let full = setup.full();
+        Left(full.count())
+    } else {
+        left
+    }
+}
+
+impl Left {
+    // How many they are.
+    pub fn count(self) -> u64
+        ensures { λ r. ⌜ Remain self r ⌝ }
+    {
+        self.0
+    }
 }
 
 impl State {

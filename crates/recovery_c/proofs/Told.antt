@@ -3,12 +3,13 @@ use Prim.Native.Nat.{ℕ}
 use mathlib.Core.Path.{_≡_, refl, sym, ap, _∙_}
 use mathlib.Core.Bool.{Bool, false, cond, not}
 use mathlib.Core.List.{List, [], _∷_}
-use lib.ListN.{length}
 use lib.Dec.{eqb}
-use borrow.Author.Tests.{eq-eqb, eqb-true}
+use borrow.Author.Tests.{eqb-true}
+use Rattle.octets.specs.Copy.{fits, outputBy}
 use Rattle.octets.specs.Checks.{_⇒_, Verdict, good, refuse, verdict, _then_, refusal}
 use Rattle.octets.proofs.Bools.{either}
 use Rattle.octets.proofs.Order.{verdict-append, first-check}
+use Rattle.octets.proofs.Parts.{put-first}
 use Rattle.setup.specs.declared.Setup.{Setup}
 use Rattle.setup.specs.Range.{setupChecks, checked}
 use Rattle.setup.proofs.InRange.{all-met}
@@ -21,10 +22,10 @@ use Rattle.calls.specs.declared.Called.{Called}
 use Rattle.calls.specs.Answering.{answered, Answers}
 use Rattle.answers.specs.Numbers.{numberOf}
 use Rattle.states.specs.declared.Held.the-variants as held-in
-use Rattle.states.specs.Fields.{held, stateOf, ReadsState, Keeps}
+use Rattle.states.specs.Fields.{held, stateOf, wordsOf, ReadsState, Keeps}
 use Rattle.states.proofs.ReadLaws.{read-state, read-nothing}
-use Rattle.states.proofs.SameWords.{holds}
-use Rattle.recovery_c.specs.Recoveries.{beginChecks, beginWords, StepsTo, TestsTo, BeginsTo}
+use Rattle.states.proofs.SameWords.{room}
+use Rattle.recovery_c.specs.Recoveries.{beginChecks, StepsTo, TestsTo, BeginsTo}
 
 -- words that hold no state, and words that do
 module _ (w : List ℕ) where
@@ -45,7 +46,7 @@ module _ (w : List ℕ) where
     pub step-told : {kept : Bool} {later : List ℕ} → Keeps (called .state) w kept later → StepsTo call w r later
     step-told k =
         let h = read-state w p .0 in
-        record { answer = answer-told; words = k .words ∙ rw (eq-eqb _ _ (holds w h .twenty), h, there) }
+        record { answer = answer-told; words = put-first (room w h (called .state)) k ∙ rw (h, there) }
 
 -- a verdict that comes to a number refuses by it
 by-number : (v : Verdict) → eqb (refusal v) 0 ≡ false → v ≡ refuse (refusal v)
@@ -76,13 +77,14 @@ module _ (setup : Setup) (w : List ℕ) where
       let v : verdict (beginChecks setup w) ≡ refuse n = simp (verdict-append, unmet e) in record { answer = rw v; words = rw v }
 
   pub begun-ready : {s : State} {kept : Bool} {r : ℕ} {later : List ℕ} → Ready s ≡ begunFrom setup → Keeps s w kept later
-      → r ≡ cond kept 0 14 → BeginsTo setup w r later
+      → r ≡ cond kept 0 8 → BeginsTo setup w r later
   unfolding beginChecks verdict _then_
   begun-ready e k a =
       let is = met e in
-      let fit = eqb (length w) 20 in
-      let v : verdict (beginChecks setup w) ≡ verdict (not fit ⇒ 14 ∷ []) = simp (verdict-append, is .0) in
+      let words = wordsOf (freshState setup) in
+      let fit = fits words w in
+      let v : verdict (beginChecks setup w) ≡ verdict (not fit ⇒ 8 ∷ []) = simp (verdict-append, is .0) in
       record {
-        answer = a ∙ rw (k .answer, v) (sym (first-check refusal fit 14 []));
-        words = k .words ∙ rw (is .1, v) (sym (first-check (λ v. beginWords v (freshState setup) w) fit 14 []));
+        answer = a ∙ rw (k .answer, is .1, v) (sym (first-check refusal fit 8 []));
+        words = k .buffer ∙ rw (is .1, v) (sym (first-check (λ v. outputBy v words w) fit 8 []));
       }

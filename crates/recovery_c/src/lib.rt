@@ -1,3 +1,3 @@
-// The door of `recovery` for C: a state is twenty lent words, one for each field (`states`). What an answer means stands in `words`, where
+// The door of `recovery` for C: a state is lent words (`states`). What an answer means stands in `words`, where
 // it is said for every door; from 100 on the names are those of `numberOf` of `answers`.
 pub mod recoveries;

@@ -1,5 +1,5 @@
-// The calls on a recovery state ("Numbering and recovery", document 01) for C: words are lent, the step is taken on the state that they
-// hold, and the next state's words take their place. Words that hold no state are 14.
+// The calls on a recovery state ("Numbering and recovery", document 01) for C: words are lent, the step is taken on the state that the
+// first of them hold, and the next state's words take their place. Words that hold no state are 14.
 use calls::Call;
 use recovery::Begun;
 use recovery::Packet;
@@ -11,7 +11,7 @@ ghost use Rattle.recovery.specs.declared.Packet.the-variants as packet;
 ghost use Rattle.calls.specs.declared.Call.the-variants as call;
 ghost use Rattle.recovery_c.specs.Recoveries.{BeginsTo, StepsTo, TestsTo};
 
-// A fresh state, written to twenty words.
+// A fresh state, written to the first words.
 #[no_mangle]
 pub extern "C" fn ahz_fresh(
     rule: u8,
@@ -86,7 +86,7 @@ fn begin_in(setup: Setup, state: &mut [u64]) -> u8
     ensures { λ r. ⌜ BeginsTo setup (now (state .entry)) r (now (state .exit)) ⌝ }
 {
     match State::fresh(setup) {
-        Begun::Ready(s) => { if states::keep(s, state) { 0 } else { 14 } }
+        Begun::Ready(s) => { if states::keep(s, state) { 0 } else { 8 } }
         Begun::Refused(no) => no,
     }
 }

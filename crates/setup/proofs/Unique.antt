@@ -6,7 +6,7 @@ use Rattle.setup.specs.declared.Milliseconds.{Milliseconds}
 use Rattle.setup.specs.declared.Ticks.{Ticks}
 use Rattle.setup.specs.declared.Setup.{Setup}
 use Rattle.setup.specs.Values.{Makes}
-use Rattle.setup.specs.Conversion.{Converts}
+use Rattle.setup.specs.Conversion.{Converts, Counts}
 use Rattle.setup.specs.Range.{ChecksSetup, GivesFull}
 
 pub makes-one : (rule taken history milliseconds rate paths difference : ℕ) {a b : Setup}
@@ -15,6 +15,9 @@ makes-one rule taken history milliseconds rate paths difference = one
 
 pub converts-one : (timeout : Milliseconds) (rate : ℕ) {a b : Ticks} → Converts timeout rate a → Converts timeout rate b → a ≡ b
 converts-one timeout rate = one
+
+pub counts-one : (ticks : Ticks) {a b : ℕ} → Counts ticks a → Counts ticks b → a ≡ b
+counts-one ticks = one
 
 pub checks-setup-one : (setup : Setup) {a b : ℕ} → ChecksSetup setup a → ChecksSetup setup b → a ≡ b
 checks-setup-one setup = one

@@ -13,6 +13,10 @@ fullTicks ms perSecond = (ms * perSecond + 999) / 1000
 unfoldable pub ticksOf : Milliseconds → ℕ → Ticks
 ticksOf timeout perSecond = record { 0 = fullTicks (timeout .0) perSecond }
 
--- the promise of `Milliseconds::ticks`
+-- the promises: of `Milliseconds::ticks`
 abbrev pub Converts : Milliseconds → ℕ → Ticks → Type 0
 Converts timeout perSecond r = r ≡ ticksOf timeout perSecond
+
+-- of `Ticks::count`
+abbrev pub Counts : Ticks → ℕ → Type 0
+Counts ticks r = r ≡ ticks .0

@@ -1,5 +1,5 @@
 // Full ticks of a timeout.
-ghost use Rattle.setup.specs.Conversion.{Converts};
+ghost use Rattle.setup.specs.Conversion.{Converts, Counts};
 use crate::Milliseconds;
 use crate::Ticks;
 
@@ -11,5 +11,14 @@ impl Milliseconds {
         let scaled = (self.0 as u64) * (rate as u64);
         let full = (scaled + 999) / 1000;
         Ticks(full)
+    }
+}
+
+impl Ticks {
+    // How many they are. There is no way back.
+    pub fn count(self) -> u64
+        ensures { λ r. ⌜ Counts self r ⌝ }
+    {
+        self.0
     }
 }

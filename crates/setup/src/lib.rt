@@ -3,11 +3,12 @@ mod conversion;
 mod range;
 mod values;
 
-// "two kinds of number that can't be mixed": `Milliseconds::ticks` is the one way from the first to the second. Their numbers are public,
-// since any setup and any state at all may be handed in.
+// "two kinds of number that can't be mixed": `Milliseconds::ticks` is the one way from the first to the second. The number of milliseconds
+// is public, since any setup at all may be handed in. That of ticks is this room's own, so that no other room has ticks but by the
+// conversion.
 pub struct Milliseconds(pub u32);
 
-pub struct Ticks(pub u64);
+pub struct Ticks(u64);
 
 // Any values may stand in the fields; `check` says which are in range.
 pub struct Setup {

@@ -11,7 +11,7 @@ pub extern "C" fn ahz_ticks(milliseconds: u32, rate: u16) -> u64
     ensures { λ r. ⌜ ConvertsTo milliseconds rate r ⌝ }
 {
     let ticks = Milliseconds(milliseconds).ticks(rate);
-    ticks.0
+    ticks.count()
 }
 
 // The verdict on a setup.

@@ -1,14 +1,18 @@
--- Words that hold a state: what each is below, and that the state's words are they again. Assumes nothing.
-use Prim.Native.Nat.{ℕ, zero, suc, _+_, _<_}
+-- Words that hold a state: what each is below, that any state's words fit there, and that this state's leave them as they were. Assumes
+-- nothing.
+use Prim.Native.Nat.{ℕ, zero, suc, _+_, _<_, _≤_}
+use native.Mathlib.Nat.{add-zero, add-suc, suc-add}
 use native.Mathlib.Omega.{arith}
 use mathlib.Core.Path.{_≡_, refl, sym, ap, _∙_}
 use mathlib.Core.Bool.{true, cond}
-use mathlib.Core.List.{List, [], _∷_}
-use lib.ListN.{length, getD, drop, drop-of-length-le}
+use mathlib.Core.List.{List, [], _∷_, _++_}
+use lib.ListN.{length, getD, drop}
 use lib.Seq.{drop-cons}
 use lib.Dec.{eqb}
-use borrow.Author.Tests.{eqb-true, ltb-true}
+use borrow.Author.Tests.{eqb-true, ltb-true, leb-true}
+use Rattle.octets.specs.Copy.{putIn}
 use Rattle.octets.proofs.Bools.{both}
+use Rattle.recovery.specs.declared.State.{State}
 use Rattle.states.specs.Fields.{Holds, word, held, stateOf, wordsOf}
 
 pub holds : (w : List ℕ) → held w ≡ true → Holds w
@@ -23,9 +27,11 @@ holds w e =
     let timeout = both _ _ (rate .0) in
     let history = both _ _ (timeout .0) in
     let taken = both _ _ (history .0) in
+    let rule = both _ _ (taken .0) in
     record {
-      twenty = eqb-true _ _ (p .0);
-      rule = ltb-true _ _ (taken .0);
+      enough = leb-true _ _ (p .0);
+      marked = eqb-true _ _ (rule .0);
+      rule = ltb-true _ _ (rule .1);
       taken = ltb-true _ _ (taken .1);
       history = ltb-true _ _ (history .1);
       timeout = ltb-true _ _ (timeout .1);
@@ -36,16 +42,24 @@ holds w e =
       «take_any» = ltb-true _ _ («take_any» .1);
     }
 
+-- where a state is held there is room for the next one
+pub room : (w : List ℕ) → held w ≡ true → (s : State) → length (wordsOf s) ≤ length w
+unfolding wordsOf
+room w e s = holds w e .enough
+
 -- n elements of a list from a place on, one by one
 unfoldable listed : ℕ → ℕ → List ℕ → List ℕ
 listed k zero w = []
 listed k (suc n) w = getD w k 0 ∷ listed (suc k) n w
 
-all-listed : (k n : ℕ) (w : List ℕ) → length w ≡ k + n → listed k n w ≡ drop k w
+-- put back where they were
+listed-first : (k n : ℕ) (w : List ℕ) → k + n ≤ length w → listed k n w ++ drop (k + n) w ≡ drop k w
 unfolding listed
-all-listed k zero w e = sym (drop-of-length-le w {i = k} (omega (arith, e)))
-all-listed k (suc n) w e =
-    ap (λ (t : List ℕ). getD w k 0 ∷ t) (all-listed (suc k) n w (omega (arith, e))) ∙ sym (drop-cons w k 0 (omega (arith, e)))
+listed-first k zero w e = rw (add-zero k)
+listed-first k (suc n) w e =
+    let later : listed (suc k) n w ++ drop (k + suc n) w ≡ drop (suc k) w =
+    rw (add-suc k n, sym (suc-add k n)) (listed-first (suc k) n w (omega (arith, e))) in
+    ap (λ (t : List ℕ). getD w k 0 ∷ t) later ∙ sym (drop-cons w k 0 (omega (arith, e)))
 
 -- a flag in a word
 one-or-none : (n : ℕ) → n < 2 → cond (eqb n 1) 1 0 ≡ n
@@ -53,6 +67,7 @@ one-or-none zero l = refl
 one-or-none (suc zero) l = refl
 one-or-none (suc (suc n)) l = absurd (omega (arith, l))
 
-pub same-words : (w : List ℕ) → held w ≡ true → wordsOf (stateOf w) ≡ w
+pub same-words : (w : List ℕ) → held w ≡ true → putIn (wordsOf (stateOf w)) w ≡ w
 unfolding wordsOf stateOf listed
-same-words w e = let h = holds w e in rw (one-or-none (word 9 w) (h .«take_any»)) (all-listed 0 20 w (h .twenty))
+same-words w e =
+    let h = holds w e in rw (one-or-none (word 10 w) (h .«take_any»), sym (h .marked)) (listed-first 0 21 w (h .enough))

@@ -3,7 +3,7 @@ use Prim.Native.Nat.{ℕ}
 use mathlib.Core.Path.{_≡_}
 use mathlib.Core.Bool.{Bool}
 use mathlib.Core.List.{List}
-use Rattle.octets.proofs.Unique.{one}
+use Rattle.octets.proofs.Unique.{one, puts-one}
 use Rattle.recovery.specs.declared.State.{State}
 use Rattle.states.specs.declared.Held.{Held}
 use Rattle.states.specs.Fields.{ReadsState, Keeps}
@@ -13,4 +13,4 @@ module _ (w : List ℕ) where
   reads-state-one = one
 
   pub keeps-one : (s : State) {a b : Bool} {l m : List ℕ} → Keeps s w a l → Keeps s w b m → (a ≡ b) × (l ≡ m)
-  keeps-one s p q = (one (p .answer) (q .answer), one (p .words) (q .words))
+  keeps-one s = puts-one

@@ -5,31 +5,32 @@ use marks::Marks;
 use recovery::State;
 use setup::Milliseconds;
 use setup::Setup;
-use setup::Ticks;
 ghost use mathlib.Core.Path.{_≡_};
 ghost use mathlib.Core.Bool.{cond};
+ghost use Prim.Native.Nat.{_≤_};
 ghost use lib.ListN.{length};
 ghost use Rattle.states.specs.Fields.{Holds, fieldsFit, held, setupIn, countersIn, stateOf, wordsOf, ReadsState, Keeps};
 
 fn fields_fit(state: &[u64]) -> bool
-    requires { ⌜ length (now state) ≡ 20 ⌝ }
+    requires { ⌜ 21 ≤ length (now state) ⌝ }
     ensures { λ r. ⌜ r ≡ fieldsFit (now (state .entry)) ⌝ }
 {
-    (state[0] < 256)
+    (state[0] == 1095260673)
         & (state[1] < 256)
-        & (state[2] < 65536)
-        & (state[3] < 4294967296)
-        & (state[4] < 65536)
-        & (state[5] < 256)
-        & (state[6] < 4294967296)
-        & (state[7] < 65536)
-        & (state[9] < 2)
+        & (state[2] < 256)
+        & (state[3] < 65536)
+        & (state[4] < 4294967296)
+        & (state[5] < 65536)
+        & (state[6] < 256)
+        & (state[7] < 4294967296)
+        & (state[8] < 65536)
+        & (state[10] < 2)
 }
 
 fn hold(state: &[u64]) -> bool
     ensures { λ r. ⌜ r ≡ held (now (state .entry)) ⌝ }
 {
-    if state.len() == 20 {
+    if 21 <= state.len() {
         fields_fit(state)
     } else {
         false
@@ -40,31 +41,31 @@ fn setup_in(state: &[u64]) -> Setup
     requires { ⌜ Holds (now state) ⌝ }
     ensures { λ r. ⌜ r ≡ setupIn (now (state .entry)) ⌝ }
 {
-    let timeout = Milliseconds(state[3] as u32);
+    let timeout = Milliseconds(state[4] as u32);
     Setup {
-        rule: state[0] as u8,
-        taken: state[1] as u8,
-        history: state[2] as u16,
+        rule: state[1] as u8,
+        taken: state[2] as u8,
+        history: state[3] as u16,
         timeout,
-        rate: state[4] as u16,
-        paths: state[5] as u8,
-        difference: state[6] as u32,
+        rate: state[5] as u16,
+        paths: state[6] as u8,
+        difference: state[7] as u32,
     }
 }
 
 fn counters_in(state: &[u64]) -> Counters
-    requires { ⌜ length (now state) ≡ 20 ⌝ }
+    requires { ⌜ 21 ≤ length (now state) ⌝ }
     ensures { λ r. ⌜ r ≡ countersIn (now (state .entry)) ⌝ }
 {
     Counters {
-        passed: state[11],
-        discarded: state[12],
-        order: state[13],
-        rogue: state[14],
-        lost: state[15],
-        tagless: state[16],
-        resets: state[17],
-        latent_resets: state[18],
+        passed: state[12],
+        discarded: state[13],
+        order: state[14],
+        rogue: state[15],
+        lost: state[16],
+        tagless: state[17],
+        resets: state[18],
+        latent_resets: state[19],
     }
 }
 
@@ -73,21 +74,13 @@ fn unpack(state: &[u64]) -> State
     ensures { λ r. ⌜ r ≡ stateOf (now (state .entry)) ⌝ }
 {
     let setup = setup_in(state);
-    let newest = state[7] as u16;
-    let marks = Marks(state[8]);
-    let take_any = state[9] == 1;
-    let left = Ticks(state[10]);
+    let newest = state[8] as u16;
+    let marks = Marks(state[9]);
+    let take_any = state[10] == 1;
+    let left = state[11];
+    let base = state[20];
     let counters = counters_in(state);
-    let base = state[19];
-    State {
-        setup,
-        newest,
-        marks,
-        take_any,
-        left,
-        counters,
-        base,
-    }
+    State::stored(setup, newest, marks, take_any, left, counters, base)
 }
 
 // The state that the words hold.
@@ -107,7 +100,7 @@ fn flag(set: bool) -> u64
     if set { 1 } else { 0 }
 }
 
-fn pack(s: State) -> [u64; 20]
+fn pack(s: State) -> [u64; 21]
     ensures { λ r. ⌜ r ≡ wordsOf s ⌝ }
 {
     let setup = s.setup;
@@ -124,6 +117,7 @@ fn pack(s: State) -> [u64; 20]
     let difference = setup.difference as u64;
     let newest = s.newest as u64;
     [
+        1095260673,
         rule,
         taken,
         history,
@@ -134,7 +128,7 @@ fn pack(s: State) -> [u64; 20]
         newest,
         marks.0,
         flag(s.take_any),
-        left.0,
+        left.count(),
         counters.passed,
         counters.discarded,
         counters.order,
@@ -147,12 +141,9 @@ fn pack(s: State) -> [u64; 20]
     ]
 }
 
-// The words of the state in place of twenty lent ones; more or fewer stay as they are.
+// The words of the state in place of the first lent ones, if there is room for them all.
 pub fn keep(s: State, state: &mut [u64]) -> bool
     ensures { λ r. ⌜ Keeps s (now (state .entry)) r (now (state .exit)) ⌝ }
 {
-    if state.len() != 20 {
-        return false;
-    }
     words::put(&pack(s), state)
 }

@@ -1,4 +1,5 @@
-// A recovery state in twenty lent words of 64 bits, one for each field: read from them, and put into them. Any words at all may be lent.
+// A recovery state in lent words of 64 bits: a format and one for each field, read from the first twenty-one of them and put into these.
+// Any words at all may be lent.
 mod fields;
 
 pub use fields::keep;

@@ -1,5 +1,5 @@
--- Document 01's worked tape, and a tape of each fault that a tape itself can have: `AsPrinted` says that each prints the lines beside it, a
--- claim, which proofs/Examples proves. Assumes nothing.
+-- Document 01's worked tape, and seven tapes with fault 23, 24 or 25: `AsPrinted` says that each prints the lines beside it, a claim, which
+-- proofs/Examples proves. Assumes nothing.
 use Prim.Native.Nat.{ℕ}
 use Prim.Native.String.{String}
 use mathlib.Core.Path.{_≡_}

@@ -1,4 +1,4 @@
--- No tape prints fault 14: from a bench whose state is sound a turn leaves a sound state or ends the output, and never with that number;
+-- No turn of the bench comes to fault 14: where the state is sound it leaves a sound one or ends the output, and never with that number;
 -- the bench that waits for its setup has no state yet. The claim is `NeverFourteen`, which proofs/NeverFourteen proves. Assumes nothing.
 use Prim.Native.Nat.{ℕ}
 use mathlib.Core.Path.{_≡_}

@@ -13,10 +13,11 @@ pub struct Milliseconds(pub u32);
 #[derive(Clone, Copy, Debug, PartialEq, Eq, PartialOrd, Ord)]
 pub struct Ticks(pub u64);
 
-/// "Full ticks = ms x ticks per second / 1000, rounded up."
+/// "Full ticks = ms x ticks per second / 1000, rounded up." Every step asks for them.
 #[inline]
+#[allow(clippy::manual_div_ceil, reason = "`div_ceil` takes the remainder too")]
 pub fn full_ticks(timeout: Milliseconds, ticks_per_second: u16) -> Ticks {
-    Ticks((u64::from(timeout.0) * u64::from(ticks_per_second)).div_ceil(1000))
+    Ticks((u64::from(timeout.0) * u64::from(ticks_per_second) + 999) / 1000)
 }
 
 /// A setup as it is handed in: the fields have the tape's widths and hold any value.

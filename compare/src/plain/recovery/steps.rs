@@ -1,6 +1,8 @@
 //! The steps themselves, on a state that stays where it is: what a head with many streams would
 //! call. `State::packet` and its kin take a value and hand the next one back, and are one line over
-//! these. A refusal comes before the first change, so a refused state keeps its values.
+//! these. Each checks the state and then makes its step; a refusal comes before the first change, so
+//! a refused state keeps its values. The steps without their check are for a state that is known to
+//! be sound.
 
 use super::setup::{Ticks, MATCH, VECTOR};
 use super::state::{State, Verdict, NEWEST_AT_RESET};
@@ -14,6 +16,11 @@ impl State {
     #[inline]
     pub fn packet_in_place(&mut self, number: Option<u16>) -> Result<Verdict, u8> {
         self.check()?;
+        Ok(self.hear(number))
+    }
+
+    #[inline]
+    pub(in crate::plain) fn hear(&mut self, number: Option<u16>) -> Verdict {
         let verdict = match number {
             None => self.tagless(),
             Some(number) if self.take_any => self.first(number),
@@ -28,7 +35,7 @@ impl State {
             }
             Verdict::Discard => count(&mut self.counters.discarded),
         }
-        Ok(verdict)
+        verdict
     }
 
     fn tagless(&mut self) -> Verdict {
@@ -59,25 +66,25 @@ impl State {
     }
 
     fn by_vector(&mut self, number: u16) -> Verdict {
-        let history = i32::from(self.setup.history);
         // The cast reads the difference modulo 65,536 as -32,768 to 32,767.
-        let d = i32::from(number.wrapping_sub(self.newest) as i16);
-        if d >= history || d <= -history {
+        let d = number.wrapping_sub(self.newest) as i16;
+        let far = d.unsigned_abs();
+        if far >= self.setup.history {
             count(&mut self.counters.rogue);
             return Verdict::Discard;
         }
         if d <= 0 {
-            return self.late(d.unsigned_abs());
+            return self.late(far);
         }
         if d != 1 {
             count(&mut self.counters.order);
         }
-        self.slide(d.unsigned_abs());
+        self.slide(far);
         self.newest = number;
         Verdict::Pass
     }
 
-    fn late(&mut self, below: u32) -> Verdict {
+    fn late(&mut self, below: u16) -> Verdict {
         let mark = 1 << below;
         if self.marks & mark != 0 {
             return Verdict::Discard;
@@ -90,24 +97,30 @@ impl State {
     /// Moves the marks d places, 0 < d < H. The marks that leave are the highest d of the H: no
     /// mark that enters on the way can leave, so the clear ones among them are what single moves
     /// count.
-    fn slide(&mut self, d: u32) {
-        let leaving = self.marks >> (u32::from(self.setup.history) - d);
-        let lost = d - leaving.count_ones();
-        self.counters.lost = self.counters.lost.wrapping_add(u64::from(lost));
+    fn slide(&mut self, d: u16) {
+        let leaving = self.marks >> (self.setup.history - d);
+        let lost = u64::from(d) - u64::from(leaving.count_ones());
+        self.counters.lost = self.counters.lost.wrapping_add(lost);
         self.marks = (self.marks << d | 1) & self.window();
     }
 
-    /// One tick, and whether it timed out: "from 1 it becomes 0 and a reset follows".
+    /// One tick, and whether it timed out.
     #[inline]
     pub fn tick_in_place(&mut self) -> Result<bool, u8> {
         self.check()?;
+        Ok(self.count_down())
+    }
+
+    /// "From 1 it becomes 0 and a reset follows."
+    #[inline]
+    pub(in crate::plain) fn count_down(&mut self) -> bool {
         let timed_out = self.ticks_left == Ticks(1);
         if timed_out {
             self.clear();
         } else {
             self.ticks_left = Ticks(self.ticks_left.0.saturating_sub(1));
         }
-        Ok(timed_out)
+        timed_out
     }
 
     #[inline]
@@ -118,7 +131,8 @@ impl State {
     }
 
     /// Fresh again, but "keeps counters, base and setup, and adds 1 to resets".
-    fn clear(&mut self) {
+    #[inline]
+    pub(in crate::plain) fn clear(&mut self) {
         self.newest = NEWEST_AT_RESET;
         self.marks = 0;
         self.take_any = true;
@@ -126,26 +140,38 @@ impl State {
         count(&mut self.counters.resets);
     }
 
+    #[inline]
+    pub fn latent_reset_in_place(&mut self) -> Result<(), u8> {
+        self.check()?;
+        self.rebase();
+        Ok(())
+    }
+
+    #[inline]
+    pub(in crate::plain) fn rebase(&mut self) {
+        self.base = self.latent_figure();
+        count(&mut self.counters.latent_resets);
+    }
+
     /// "Passed x (paths - 1) - discarded modulo 2^64, signed."
+    #[inline]
     fn latent_figure(&self) -> i64 {
         let others = u64::from(self.setup.paths) - 1;
         let expected = self.counters.passed.wrapping_mul(others);
         expected.wrapping_sub(self.counters.discarded) as i64
     }
 
-    #[inline]
-    pub fn latent_reset_in_place(&mut self) -> Result<(), u8> {
-        self.check()?;
-        self.base = self.latent_figure();
-        count(&mut self.counters.latent_resets);
-        Ok(())
-    }
-
-    /// True for a latent error. The absolute value is unsigned: that of -2^63 is 2^63.
+    /// True for a latent error.
     #[inline]
     pub fn latent_test(&self) -> Result<bool, u8> {
         self.check()?;
+        Ok(self.is_latent_error())
+    }
+
+    /// The absolute value is unsigned: that of -2^63 is 2^63.
+    #[inline]
+    pub(in crate::plain) fn is_latent_error(&self) -> bool {
         let away = self.base.wrapping_sub(self.latent_figure()).unsigned_abs();
-        Ok(away > u64::from(self.setup.difference))
+        away > u64::from(self.setup.difference)
     }
 }

@@ -12,7 +12,8 @@ cast-clear-from c = search needs
 returns : tie.Need-returns
 unfolding sound awaits isVector
 returns c =
-    let first = c .before in
+    let counted = c .before in
+    let first = counted .before in
     let bare = first .before in
     let above = bare .before in
     let refusal = above .before .before in
@@ -23,6 +24,7 @@ returns c =
       ← above .clear-from .ensures,
       ← refusal .check .ensures,
       ← full .full .ensures,
+      ← counted .count .ensures,
     )
     (c .parts-agree .ensures)
 

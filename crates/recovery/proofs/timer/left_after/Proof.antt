@@ -7,7 +7,7 @@ use Rattle.recovery.proofs.timer.left_after.Tie as tie
 -- the packet passes
 returns : tie.Need-returns
 unfolding restarted
-returns c = rw (c .before .if1 .taken) (c .full .ensures)
+returns c = let full = c .before in rw (full .before .if1 .taken, c .count .ensures, full .full .ensures)
 
 -- it is discarded
 returns-2 : tie.Need-returns-2

@@ -1,4 +1,4 @@
--- `recoveries::begin_in` meets its contract: the setup's refusal, then the number of words. Assumes nothing.
+-- `recoveries::begin_in` meets its contract: the setup's refusal, then room for the words. Assumes nothing.
 use mathlib.Core.Path.{sym, _∙_}
 use Rattle.recovery_c.proofs.Told.{begun-refused, begun-ready}
 use borrow.Author.Needs.{needs}
@@ -17,7 +17,7 @@ same-length c = search needs
 same-length-2 : tie.Need-same-length-2
 same-length-2 c = search needs
 
--- twenty words
+-- room for the words
 returns : tie.Need-returns
 returns c =
     let kept = c .before .before .before in
@@ -25,7 +25,7 @@ returns c =
     let begun = ready .before .before in
     begun-ready _ _ (sym (ready .s .given .1) ∙ begun .fresh .ensures) (kept .keep .ensures) (rw (c .if1 .taken))
 
--- more or fewer
+-- too few
 returns-2 : tie.Need-returns-2
 returns-2 c =
     let kept = c .before .before .before in

@@ -4,35 +4,38 @@ use borrow.Author.Needs.{needs}
 use Rattle.states.proofs.fields.fields_fit.Statement.{statement}
 use Rattle.states.proofs.fields.fields_fit.Tie as tie
 
-rule : tie.Need-shared-slice-read-result
+format : tie.Need-shared-slice-read-result
+format c = search needs
+
+rule : tie.Need-shared-slice-read-result-2
 rule c = search needs
 
-taken : tie.Need-shared-slice-read-result-2
+taken : tie.Need-shared-slice-read-result-3
 taken c = search needs
 
-history : tie.Need-shared-slice-read-result-3
+history : tie.Need-shared-slice-read-result-4
 history c = search needs
 
-timeout : tie.Need-shared-slice-read-result-4
+timeout : tie.Need-shared-slice-read-result-5
 timeout c = search needs
 
-rate : tie.Need-shared-slice-read-result-5
+rate : tie.Need-shared-slice-read-result-6
 rate c = search needs
 
-paths : tie.Need-shared-slice-read-result-6
+paths : tie.Need-shared-slice-read-result-7
 paths c = search needs
 
-difference : tie.Need-shared-slice-read-result-7
+difference : tie.Need-shared-slice-read-result-8
 difference c = search needs
 
-newest : tie.Need-shared-slice-read-result-8
+newest : tie.Need-shared-slice-read-result-9
 newest c = search needs
 
-take-any : tie.Need-shared-slice-read-result-9
+take-any : tie.Need-shared-slice-read-result-10
 take-any c = search needs
 
 returns : tie.Need-returns
 returns c = refl
 
 pub fields-fit-spec : {M : Type 1} → statement M
-fields-fit-spec = tie.close (tie.spec rule taken history timeout rate paths difference newest take-any returns)
+fields-fit-spec = tie.close (tie.spec format rule taken history timeout rate paths difference newest take-any returns)

@@ -30,7 +30,7 @@ cast-newest c = search needs
 
 returns : tie.Need-returns
 unfolding wordsOf
-returns c = rw (c .flag .ensures)
+returns c = rw (c .count .ensures, c .before .flag .ensures)
 
 pub pack-spec : {M : Type 1} → statement M
 pack-spec =

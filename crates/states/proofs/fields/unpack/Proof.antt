@@ -1,4 +1,5 @@
 -- `states::unpack` meets its contract: each word is its field. Assumes nothing.
+use mathlib.Core.Path.{_∙_}
 use Rattle.states.specs.Fields.{stateOf}
 use borrow.Author.Needs.{needs}
 use Rattle.states.proofs.fields.unpack.Statement.{statement}
@@ -13,11 +14,11 @@ read-take-any c = search needs
 read-take-any-2 : tie.Need-shared-slice-read-take-any-2
 read-take-any-2 c = search needs
 
+read-left : tie.Need-shared-slice-read-left
+read-left c = search needs
+
 read-base : tie.Need-shared-slice-read-base
 read-base c = search needs
-
-read-base-2 : tie.Need-shared-slice-read-base-2
-read-base-2 c = search needs
 
 cast-newest : tie.Need-cast-newest
 cast-newest c = search needs
@@ -32,10 +33,22 @@ returns : tie.Need-returns
 unfolding stateOf
 returns c =
     let counters = c .before in
-    let setup = counters .before .before .before .before .before in
-    rw (setup .setup-in .ensures, counters .counters-in .ensures)
+    let setup = counters .before .before .before .before .before .before in
+    c .stored .ensures ∙ rw (setup .setup-in .ensures, counters .counters-in .ensures)
 
 pub unpack-spec : {M : Type 1} → statement M
 unpack-spec =
     tie.close
-    (tie.spec setup-in-requires read-newest cast-newest read-take-any read-take-any-2 read-base counters-in-requires read-base-2 returns)
+    (search (
+      tie.spec,
+      setup-in-requires,
+      read-newest,
+      cast-newest,
+      read-take-any,
+      read-take-any-2,
+      read-left,
+      read-base,
+      counters-in-requires,
+      returns,
+      needs,
+    ))

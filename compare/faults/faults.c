@@ -1,0 +1,313 @@
+/* A wrong layer. Each call forwards to the proved one, whose names have `real_` in front, and does one thing wrong where AHZ_FAULT names
+ * it. Without AHZ_FAULT it is faithful. faults.txt has each fault with the test that is to catch it; tools/faults builds and runs this. */
+#include <math.h>
+#include <stdlib.h>
+#include <string.h>
+
+#include "ahozurime.h"
+
+#define REAL(call) extern __typeof__(call) real_##call
+REAL(ahz_version);
+REAL(ahz_read);
+REAL(ahz_payload);
+REAL(ahz_insert);
+REAL(ahz_remove);
+REAL(ahz_check_table);
+REAL(ahz_lookup);
+REAL(ahz_generator);
+REAL(ahz_generate);
+REAL(ahz_generator_reset);
+REAL(ahz_ticks);
+REAL(ahz_check_setup);
+REAL(ahz_fresh);
+REAL(ahz_numbered);
+REAL(ahz_tagless);
+REAL(ahz_tick);
+REAL(ahz_reset);
+REAL(ahz_latent_reset);
+REAL(ahz_latent_test);
+REAL(ahz_card);
+REAL(ahz_card_octets);
+REAL(ahz_rest_octets);
+REAL(ahz_volts);
+REAL(ahz_tape);
+
+static const char *chosen = "";
+static volatile uint8_t looked_at;
+
+__attribute__((constructor)) static void choose(void)
+{
+    const char *named = getenv("AHZ_FAULT");
+    chosen = named ? named : "";
+}
+
+static int fault(const char *name)
+{
+    return strcmp(chosen, name) == 0;
+}
+
+uint32_t ahz_version(void)
+{
+    return real_ahz_version();
+}
+
+/* ---- Frames ---- */
+
+uint8_t ahz_read(const uint8_t *frame, size_t frame_octets, uint64_t *header, size_t header_words)
+{
+    size_t octets = fault("length-16-bits") ? (uint16_t)frame_octets : frame_octets;
+    uint8_t answer = real_ahz_read(frame, octets, header, header_words);
+
+    if (fault("frame-changed") && frame_octets > 14)
+        ((uint8_t *)frame)[frame_octets - 1] ^= 1;
+    if (fault("read-behind"))
+        looked_at = frame[frame_octets];
+    if (answer != AHZ_DONE)
+        return answer;
+    if (fault("header-garbage"))
+        header[AHZ_H_VLAN] |= UINT64_C(1) << 40;
+    if (fault("number-without-tag") && !header[AHZ_H_NUMBERED])
+        header[AHZ_H_NUMBER] = header[AHZ_H_TYPE];
+    return answer;
+}
+
+size_t ahz_payload(const uint8_t *frame, size_t frame_octets)
+{
+    return real_ahz_payload(frame, frame_octets);
+}
+
+uint8_t ahz_insert(const uint8_t *frame, size_t frame_octets, uint16_t number, uint8_t *out, size_t out_octets, size_t *length)
+{
+    size_t room = fault("room-16-bits") ? (uint16_t)out_octets : out_octets;
+    uint8_t answer = real_ahz_insert(frame, frame_octets, number, out, room, length);
+
+    if (fault("octet-behind") && answer == AHZ_DONE)
+        out[out_octets] = 0;
+    if (fault("length-on-refusal") && answer == AHZ_R_OUTPUT_SHORT)
+        *length = frame_octets + 6;
+    return answer;
+}
+
+uint8_t ahz_remove(const uint8_t *frame, size_t frame_octets, uint8_t *out, size_t out_octets, size_t *length)
+{
+    uint8_t answer = real_ahz_remove(frame, frame_octets, out, out_octets, length);
+
+    if (fault("octet-before") && answer == AHZ_DONE)
+        out[-1] = 0;
+    if (fault("later-octets") && answer == AHZ_DONE)
+        memset(out + *length, 0, out_octets - *length);
+    if (fault("refusal-writes") && answer == AHZ_R_OUTPUT_SHORT)
+        memcpy(out, frame, out_octets);
+    return answer;
+}
+
+/* ---- Stream tables ---- */
+
+uint8_t ahz_check_table(const uint8_t *table, size_t table_octets)
+{
+    uint8_t answer = real_ahz_check_table(table, table_octets);
+    const size_t most = 256 * 12, over = table_octets % 12;
+
+    if (fault("range-before-cut") && answer == AHZ_R_ENTRY_CUT && over > 7 && (uint8_t)(table[table_octets - over + 7] - 1) > 2)
+        return AHZ_R_ENTRY_RANGE;
+    if (fault("table-changed") && answer == AHZ_R_ENTRY_RANGE)
+        ((uint8_t *)table)[table_octets - 1] ^= 1;
+    if (answer != AHZ_R_ENTRY_257)
+        return answer;
+    if (fault("entry-257-unknown") && table[most] != 1 && table[most] != 2)
+        return AHZ_R_ENTRY_KIND;
+    if (fault("entry-257-cut") && table_octets < most + 12)
+        return AHZ_R_ENTRY_CUT;
+    return answer;
+}
+
+uint8_t ahz_lookup(const uint8_t *table, size_t table_octets, const uint8_t *frame, size_t frame_octets, uint16_t *handle)
+{
+    uint16_t lent = *handle;
+    uint8_t answer = real_ahz_lookup(table, table_octets, frame, frame_octets, handle);
+
+    if (fault("written-back") && frame_octets > 0)
+        ((volatile uint8_t *)frame)[0] = frame[0];
+    if (fault("dei-in-vlan") && answer == AHZ_STREAM && frame[12] == 0x81 && frame[13] == 0 && (frame[14] & 0x10)) {
+        for (size_t at = 0; at < table_octets; at += 12)
+            if (table[at + 8] == 0 && table[at + 9] == 0 && real_ahz_lookup(table + at, 12, frame, frame_octets, handle) == AHZ_STREAM)
+                return AHZ_STREAM;
+        *handle = lent;
+        return AHZ_NO_STREAM;
+    }
+    if (fault("first-entry") && answer == AHZ_STREAM)
+        *handle = (uint16_t)(table[10] << 8 | table[11]);
+    if (fault("handle-of-none") && answer == AHZ_NO_STREAM)
+        *handle = 0;
+    if (fault("handle-0-as-none") && answer == AHZ_STREAM && *handle == 0)
+        return AHZ_NO_STREAM;
+    if ((fault("no-stream-for-2") && answer == AHZ_R_FRAME_LONG) || (fault("no-stream-for-3") && answer == AHZ_R_TAG_CUT) ||
+        (fault("no-stream-for-4") && answer == AHZ_R_TAG_TWICE))
+        return AHZ_NO_STREAM;
+    return answer;
+}
+
+/* ---- Numbering ---- */
+
+uint16_t ahz_generator(void)
+{
+    return real_ahz_generator();
+}
+
+uint16_t ahz_generate(uint16_t *generator)
+{
+    uint16_t number = real_ahz_generate(generator);
+
+    if (fault("generator-stops") && number == 65535)
+        *generator = number;
+    return number;
+}
+
+void ahz_generator_reset(uint16_t *generator)
+{
+    real_ahz_generator_reset(generator);
+}
+
+/* ---- Recovery ---- */
+
+uint64_t ahz_ticks(uint32_t milliseconds, uint16_t rate)
+{
+    if (fault("ticks-in-32-bits"))
+        return (milliseconds * (uint32_t)rate + 999) / 1000;
+    return real_ahz_ticks(milliseconds, rate) + (fault("ticks-at-333") && rate == 333);
+}
+
+uint8_t ahz_check_setup(uint8_t rule, uint8_t taken, uint16_t history, uint32_t milliseconds, uint16_t rate, uint8_t paths,
+                        uint32_t difference)
+{
+    return real_ahz_check_setup(rule, taken, history, milliseconds, rate, paths, difference);
+}
+
+uint8_t ahz_fresh(uint8_t rule, uint8_t taken, uint16_t history, uint32_t milliseconds, uint16_t rate, uint8_t paths, uint32_t difference,
+                  uint64_t *state, size_t state_words)
+{
+    uint8_t answer = real_ahz_fresh(rule, taken, history, milliseconds, rate, paths, difference, state, state_words);
+
+    if (fault("short-first") && state_words < AHZ_S_WORDS)
+        return AHZ_R_OUTPUT_SHORT;
+    if (fault("short-as-unsound") && answer == AHZ_R_OUTPUT_SHORT)
+        return AHZ_R_STATE;
+    return answer;
+}
+
+uint8_t ahz_numbered(uint64_t *state, size_t state_words, uint16_t number)
+{
+    uint64_t before[AHZ_S_WORDS];
+    uint8_t answer;
+
+    if (state_words < AHZ_S_WORDS)
+        return real_ahz_numbered(state, state_words, number);
+    memcpy(before, state, sizeof before);
+    if (fault("format-ignored"))
+        state[AHZ_S_FORMAT] = AHZ_STATE_FORMAT;
+    if (fault("mark-beyond") && state[AHZ_S_HISTORY] < 64)
+        state[AHZ_S_MARKS] &= (UINT64_C(1) << state[AHZ_S_HISTORY]) - 1;
+    answer = real_ahz_numbered(state, state_words, number);
+    state[AHZ_S_FORMAT] = before[AHZ_S_FORMAT];
+    if (answer == AHZ_R_STATE)
+        state[AHZ_S_MARKS] = before[AHZ_S_MARKS];
+    if (answer != AHZ_PASS)
+        return answer;
+    if (fault("counter-sticks") && before[AHZ_S_PASSED] == UINT64_MAX)
+        state[AHZ_S_PASSED] = UINT64_MAX;
+    if (fault("lost-once") && state[AHZ_S_LOST] - before[AHZ_S_LOST] > 1)
+        state[AHZ_S_LOST] = before[AHZ_S_LOST] + 1;
+    if (fault("full-window") && state[AHZ_S_MARKS] == UINT64_MAX)
+        state[AHZ_S_MARKS] >>= 1;
+    if (fault("full-ticks-down") && state[AHZ_S_MILLISECONDS] * state[AHZ_S_RATE] > 1000000)
+        state[AHZ_S_LEFT] = state[AHZ_S_MILLISECONDS] * state[AHZ_S_RATE] / 1000;
+    if (fault("mark-forgotten") && state[AHZ_S_NEWEST] != number)
+        state[AHZ_S_MARKS] = before[AHZ_S_MARKS];
+    return answer;
+}
+
+uint8_t ahz_tagless(uint64_t *state, size_t state_words)
+{
+    return fault("tagless-as-0") ? real_ahz_numbered(state, state_words, 0) : real_ahz_tagless(state, state_words);
+}
+
+uint8_t ahz_tick(uint64_t *state, size_t state_words)
+{
+    if (fault("longer-refused") && state_words > AHZ_S_WORDS)
+        return AHZ_R_STATE;
+    if (fault("timer-early") && state_words >= AHZ_S_WORDS && state[AHZ_S_LEFT] == 2)
+        state[AHZ_S_LEFT] = 1;
+    return real_ahz_tick(state, state_words);
+}
+
+uint8_t ahz_reset(uint64_t *state, size_t state_words)
+{
+    if (fault("later-word") && state_words > AHZ_S_WORDS)
+        state[AHZ_S_WORDS] = 0;
+    return real_ahz_reset(state, state_words);
+}
+
+uint8_t ahz_latent_reset(uint64_t *state, size_t state_words)
+{
+    return real_ahz_latent_reset(state, state_words);
+}
+
+uint8_t ahz_latent_test(const uint64_t *state, size_t state_words)
+{
+    uint8_t answer = real_ahz_latent_test(state, state_words);
+
+    if (fault("latent-test-resets") && answer == AHZ_LATENT_ERROR)
+        return real_ahz_latent_reset((uint64_t *)state, state_words) == AHZ_DONE ? answer : AHZ_R_STATE;
+    return answer;
+}
+
+/* ---- Charge cards ---- */
+
+uint8_t ahz_card(const uint8_t *payload, size_t payload_octets, uint32_t *value)
+{
+    uint8_t answer = real_ahz_card(payload, payload_octets, value);
+
+    return fault("millivolts-as-raw") && answer == AHZ_MILLIVOLTS ? AHZ_RAW_CODE : answer;
+}
+
+size_t ahz_card_octets(const uint8_t *payload, size_t payload_octets)
+{
+    return real_ahz_card_octets(payload, payload_octets);
+}
+
+size_t ahz_rest_octets(const uint8_t *payload, size_t payload_octets)
+{
+    size_t octets = real_ahz_rest_octets(payload, payload_octets);
+
+    return fault("rest-8-bits") ? (uint8_t)octets : octets;
+}
+
+uint8_t ahz_volts(const uint8_t *payload, size_t payload_octets, double gain, double offset, double *volts)
+{
+    uint8_t answer = real_ahz_volts(payload, payload_octets, gain, offset, volts);
+
+    if (fault("volts-fused") && answer == AHZ_FROM_RAW_CODE)
+        *volts = fma(payload[1] << 8 | payload[2], gain, offset);
+    if (fault("minus-zero") && answer == AHZ_FROM_RAW_CODE && *volts == 0)
+        *volts = -0.0;
+    return answer;
+}
+
+/* ---- The bench tape ---- */
+
+uint8_t ahz_tape(const uint8_t *tape, size_t tape_octets, uint8_t *out, size_t out_octets, size_t *length)
+{
+    uint8_t answer, cut[4096];
+
+    if (fault("difference-16-bits") && tape_octets >= 16 && tape_octets <= sizeof cut && tape[0] == 0x0F) {
+        memcpy(cut, tape, tape_octets);
+        cut[12] = cut[13] = 0;
+        return real_ahz_tape(cut, tape_octets, out, out_octets, length);
+    }
+    answer = real_ahz_tape(tape, tape_octets, out, out_octets, length);
+    if (fault("last-newline") && answer == AHZ_DONE)
+        *length -= 1;
+    if (fault("cut-as-repeated") && answer == AHZ_DONE && *length > 9 && memcmp(out + *length - 9, "fault 24\n", 9) == 0)
+        out[*length - 2] = '5';
+    return answer;
+}

@@ -1,0 +1,66 @@
+//! The plain version's records and answers as the numbers and words of `include/ahozurime.h`, field
+//! by field in the header's order.
+
+use crate::plain::frame::Header;
+use crate::plain::recovery::{Counters, Setup, State};
+
+pub const HEADER: usize = 8;
+pub const STATE: usize = 21;
+
+/// "AHZ" and 1.
+pub const FORMAT: u64 = 0x4148_5A01;
+
+/// A setup's seven numbers.
+pub type SetupNumbers = (u8, u8, u16, u32, u16, u8, u32);
+
+pub fn of_setup(setup: &Setup) -> SetupNumbers {
+    let Setup { rule, taken, history, timeout, ticks_per_second, paths, difference } = *setup;
+    (rule, taken, history, timeout.0, ticks_per_second, paths, difference)
+}
+
+fn address(octets: [u8; 6]) -> u64 {
+    octets.iter().fold(0, |address, &octet| address * 256 + u64::from(octet))
+}
+
+pub fn of_header(header: &Header) -> [u64; HEADER] {
+    [
+        address(header.destination),
+        address(header.source),
+        header.has_c_tag.into(),
+        header.vlan.into(),
+        header.number.is_some().into(),
+        header.number.unwrap_or(0).into(),
+        header.ethertype.into(),
+        header.payload_at as u64,
+    ]
+}
+
+pub fn of_state(state: &State) -> [u64; STATE] {
+    let (rule, taken, history, timeout, ticks_per_second, paths, difference) =
+        of_setup(&state.setup);
+    let Counters { passed, discarded, order, rogue, lost, tagless, resets, latent_resets } =
+        state.counters;
+    [
+        FORMAT,
+        rule.into(),
+        taken.into(),
+        history.into(),
+        timeout.into(),
+        ticks_per_second.into(),
+        paths.into(),
+        difference.into(),
+        state.newest.into(),
+        state.marks,
+        state.take_any.into(),
+        state.ticks_left.0,
+        passed,
+        discarded,
+        order,
+        rogue,
+        lost,
+        tagless,
+        resets,
+        latent_resets,
+        state.base as u64,
+    ]
+}

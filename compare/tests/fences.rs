@@ -1,0 +1,162 @@
+//! Every call with what it is lent between fences: a read or a write outside of it, or any write to
+//! an input, ends the program by a signal. With one thread for all tests, the last name printed is
+//! the test that it was.
+
+#![cfg(target_os = "linux")]
+
+use compare::guarded::{within, Fence};
+use compare::layers::*;
+use compare::plain::cards::Calibration;
+use compare::plain::recovery::{Milliseconds, Setup, State};
+
+fn fenced(calls: impl Fn()) {
+    within(Fence::Before, &calls);
+    within(Fence::Behind, &calls);
+}
+
+/// Frames without a tag, with either and with both, and with bad ones; and behind the type, cards.
+fn frames() -> Vec<Vec<u8>> {
+    let tags: [&[u8]; 6] = [
+        &[],
+        &[0x81, 0, 0, 5],
+        &[0xF1, 0xC1, 0, 0, 0, 1],
+        &[0x81, 0, 0, 5, 0xF1, 0xC1, 0, 0, 0, 1],
+        &[0x81, 0, 0x0F, 0xFF],
+        &[0xF1, 0xC1, 0, 0, 0, 1, 0xF1, 0xC1],
+    ];
+    let behind = [8, 0, 0x11, 0, 1, 0x10, 0, 0, 0, 1, 0x12, 3, 4, 0];
+    tags.map(|tags| [&[2; 12], tags, &behind].concat()).to_vec()
+}
+
+/// Every cut of some octets, and longer ones.
+fn lengths(octets: &[u8], longer: &[usize], call: impl Fn(&[u8])) {
+    (0..=octets.len()).for_each(|length| call(&octets[..length]));
+    for &length in longer {
+        let mut octets = octets.to_vec();
+        octets.resize(length, 7);
+        call(&octets);
+    }
+}
+
+/// Frames cut everywhere and too long; rooms and headers too short, just long enough and longer.
+#[test]
+fn calls_on_frames() {
+    fenced(|| {
+        for whole in frames() {
+            lengths(&whole, &[1_516, 1_517, 1_522, 1_523, 65_536, 70_000], |frame| {
+                for words in [0, 7, 8, 9] {
+                    let _ = read_into(frame, &vec![7; words]);
+                }
+                let _ = payload(frame);
+                let length = frame.len();
+                for room in
+                    [0, length.saturating_sub(7), length.saturating_sub(6), length + 6, 1_600]
+                {
+                    let _ = insert(frame, 9, &mut vec![7; room]);
+                    let _ = remove(frame, &mut vec![7; room]);
+                }
+            });
+        }
+    });
+}
+
+/// Tables cut everywhere and full, with frames good and refused.
+#[test]
+fn calls_on_tables() {
+    let entry = [1, 2, 2, 2, 2, 2, 2, 3, 0, 0, 0, 9];
+    let other = [2, 9, 2, 2, 2, 2, 2, 1, 0, 5, 0, 9];
+    let frames = frames();
+    fenced(|| {
+        for good in [[entry, other].concat(), [other, entry].concat(), other.repeat(256)] {
+            let cuts = (0..=24).chain([good.len() - 1, good.len()]);
+            for table in cuts.map(|cut| &good[..cut]) {
+                let _ = check_table(table);
+                for frame in &frames {
+                    for cut in [0, 13, 14, 16, 18, 20, 24, frame.len()] {
+                        let _ = lookup(table, &frame[..cut]);
+                    }
+                }
+            }
+        }
+        lengths(&[&entry.repeat(256)[..], &[9]].concat()[3_060..], &[65_536], |table| {
+            let _ = check_table(table);
+        });
+    });
+}
+
+/// States fresh, in use, unsound, cut and longer, under both rules; setups good and refused.
+#[test]
+fn calls_on_generators_and_states() {
+    let setup = Setup {
+        rule: 0,
+        taken: 1,
+        history: 4,
+        timeout: Milliseconds(100),
+        ticks_per_second: 100,
+        paths: 2,
+        difference: 0,
+    };
+    fenced(|| {
+        for number in [0, 7, 65_535] {
+            let _ = (generate(number), generator_reset(number));
+        }
+        let _ = ticks(setup.timeout, 100);
+        for setup in [setup, Setup { rule: 1, ..setup }, Setup { history: 65, ..setup }] {
+            let _ = check_setup(&setup);
+            for words in [0, 1, 20, 21, 22, 300] {
+                let _ = fresh_into(&setup, &vec![7; words]);
+            }
+            let Ok(fresh) = State::fresh(setup) else { continue };
+            let mut kept = Kept::of(&fresh);
+            for asked in [events(5), events(5), events(8), events(6)].concat() {
+                kept.event(asked);
+                let state = kept.state();
+                for state in [state, State { newest: 9, marks: 1 << 9, ..state }] {
+                    let _ = event(&state, asked);
+                }
+            }
+            let words = compare::words::of_state(&kept.state());
+            for asked in events(7) {
+                for count in 0..words.len() {
+                    assert_eq!(raw_event(&words[..count], asked).0, 14);
+                }
+                assert_ne!(raw_event(&[&words[..], &[7; 9]].concat(), asked).0, 14);
+            }
+        }
+    });
+}
+
+/// Payloads from every place of a frame, cut everywhere and long.
+#[test]
+fn calls_on_payloads() {
+    let good = Calibration { gain: 0.5, offset: 0.0 };
+    fenced(|| {
+        for whole in frames() {
+            for start in 12..whole.len() {
+                lengths(&whole[start..], &[256, 65_536], |payload| {
+                    let _ = (next_card(payload), card(payload), rest(payload));
+                    for calibration in [good, Calibration { gain: 2.0, ..good }] {
+                        let _ = volts(payload, calibration);
+                    }
+                });
+            }
+        }
+    });
+}
+
+/// Tapes cut everywhere, the longest and longer, into rooms too short and long enough.
+#[test]
+fn calls_on_tapes() {
+    let setup = [15, 0, 0, 0, 4, 0, 0, 0, 100, 0, 100, 2, 0, 0, 0, 1];
+    let events = [1, 0, 10, 2, 3, 4, 5, 6, 1, 0, 9, 15];
+    fenced(|| {
+        for whole in [[&setup[..], &events].concat(), [&setup[..], &[5; 4_081]].concat()] {
+            lengths(&whole[..28], &[4_096, 4_097, 65_536], |tape| {
+                let length = lines(tape).len();
+                for room in [0, length - 1, length, length + 9] {
+                    let _ = run(tape, &mut vec![7; room]);
+                }
+            });
+        }
+    });
+}

@@ -1,0 +1,2 @@
+// A door over no room: which version of the calls for C this is.
+pub mod versions;

@@ -1,0 +1,45 @@
+//! Numbers for the frames that are sent, and for each stream that is received a state that lets each
+//! number pass once.
+//!
+//! ```
+//! use ahozurime::recovery::{Latent, Rule, Setup, State, Ticked, Verdict};
+//! use ahozurime::{Milliseconds, Refusal, TicksPerSecond};
+//!
+//! let setup = Setup {
+//!     rule: Rule::Vector,
+//!     take_tagless: false,
+//!     history: 4,
+//!     timeout: Milliseconds(20),
+//!     rate: TicksPerSecond(100),
+//!     paths: 2,
+//!     difference: 1,
+//! };
+//! let mut state = State::fresh(&setup)?;
+//! for (number, verdict) in [
+//!     (10, Verdict::Pass),
+//!     (10, Verdict::Discard), // a repeat
+//!     (12, Verdict::Pass),
+//!     (11, Verdict::Pass),    // late
+//!     (20, Verdict::Discard), // too far off: a rogue
+//! ] {
+//!     assert_eq!(state.numbered(number)?, verdict);
+//! }
+//! let counters = state.counters();
+//! assert_eq!((counters.passed, counters.discarded), (3, 2));
+//! assert_eq!((counters.order, counters.rogue, counters.lost), (2, 1, 2));
+//! assert_eq!(state.latent_test()?, Latent::Ok);
+//!
+//! // Full ticks are 2: the second without a packet that passes times out.
+//! assert_eq!(state.tick()?, Ticked::Tick);
+//! assert_eq!(state.tick()?, Ticked::Reset);
+//! assert!(state.take_any());
+//! # Ok::<(), Refusal>(())
+//! ```
+
+mod generator;
+mod setup;
+mod state;
+
+pub use generator::Generator;
+pub use setup::{Rule, Setup};
+pub use state::{Counters, Latent, State, Ticked, Verdict, WORDS};

@@ -1,0 +1,194 @@
+//! What this package adds to the layer: names, sentences and walks.
+
+use ahozurime::cards::{self, Calibration, Card, Reading};
+use ahozurime::recovery::{Generator, Rule, Setup, State, WORDS};
+use ahozurime::{frame, streams, tape, version, Version, STACK};
+use ahozurime::{Milliseconds, Millivolts, RawCode, Refusal, TicksPerSecond, Volts};
+use std::collections::BTreeMap;
+
+const HEADER: &str = include_str!("../../../include/ahozurime.h");
+
+#[test]
+fn refusals_have_the_numbers_of_the_paper() {
+    let in_order = [
+        Refusal::FRAME_SHORT,
+        Refusal::FRAME_LONG,
+        Refusal::TAG_CUT,
+        Refusal::TAG_TWICE,
+        Refusal::VLAN,
+        Refusal::TAG_THERE,
+        Refusal::RESULT_LONG,
+        Refusal::OUTPUT_SHORT,
+        Refusal::NO_TAG,
+        Refusal::ENTRY_KIND,
+        Refusal::ENTRY_CUT,
+        Refusal::ENTRY_RANGE,
+        Refusal::ENTRY_257,
+        Refusal::STATE,
+        Refusal::RULE,
+        Refusal::HISTORY,
+        Refusal::MILLISECONDS,
+        Refusal::RATE,
+        Refusal::PATHS,
+        Refusal::CARD_KIND,
+        Refusal::CARD_CUT,
+        Refusal::CALIBRATION,
+        Refusal::EVENT_KIND,
+        Refusal::EVENT_CUT,
+        Refusal::TAPE_SETUP,
+        Refusal::TAPE_LONG,
+        Refusal::TAKEN,
+    ];
+    assert_eq!(in_order.map(Refusal::number).to_vec(), (1..=27).collect::<Vec<u8>>());
+}
+
+/// The sentences of the header by their numbers, and the one for every other number.
+fn sentences_of_the_header() -> (BTreeMap<u8, &'static str>, &'static str) {
+    let (_, form) = HEADER.split_once("ahz_refusal_sentence(").expect("the form");
+    let (cases, default) = form.split_once("default:").expect("a default");
+    let quoted = |text: &'static str| text.split('"').nth(1).expect("a sentence");
+    let number = |name: &str| {
+        let (_, value) = HEADER.split_once(&format!(" {name} = ")).expect(name);
+        let (digits, _) = value.split_once(|c: char| !c.is_ascii_digit()).expect(name);
+        digits.parse().expect(name)
+    };
+    let sentence = |case: &'static str| {
+        let (name, answer) = case.split_once(':').expect("an answer");
+        (number(name), quoted(answer))
+    };
+    (cases.split("case ").skip(1).map(sentence).collect(), quoted(default))
+}
+
+#[test]
+fn sentences_are_those_of_the_header() {
+    let (sentences, none) = sentences_of_the_header();
+    assert_eq!(sentences.keys().copied().collect::<Vec<_>>(), (1..=27).collect::<Vec<_>>());
+    for number in 0..=255 {
+        let refusal = Refusal::from_number(number);
+        assert_eq!(refusal.number(), number);
+        assert_eq!(refusal.sentence(), *sentences.get(&number).unwrap_or(&none), "{number}");
+    }
+}
+
+#[test]
+fn a_refusal_is_shown_with_its_sentence() {
+    let error: Box<dyn std::error::Error> = Box::new(Refusal::VLAN);
+    assert_eq!(error.to_string(), "refusal 5: VLAN id 4,095");
+    assert_eq!(format!("{:?}", Refusal::VLAN), r#"Refusal(5, "VLAN id 4,095")"#);
+}
+
+#[test]
+fn the_version_is_one_point_zero() {
+    assert_eq!(version(), Version { major: 1, minor: 0 });
+    assert_eq!(Version::OF_THIS_PACKAGE, Version { major: 1, minor: 0 });
+}
+
+#[test]
+fn a_version_fits_the_same_major_and_a_minor_up_to_its_own() {
+    let archive = Version { major: 2, minor: 3 };
+    for (major, minor, fits) in
+        [(2, 3, true), (2, 2, true), (2, 4, false), (1, 3, false), (1, 9, false), (3, 0, false)]
+    {
+        assert_eq!(archive.fits(Version { major, minor }), fits, "{major}.{minor}");
+    }
+}
+
+/// But for the last three, which are the layer's own: its stack and the longest output of a tape.
+#[test]
+fn constants_are_those_of_the_paper() {
+    assert_eq!((frame::SHORTEST, frame::LONGEST), (14, 1_522));
+    assert_eq!((frame::RTAG_OCTETS, frame::VLAN_LAST), (6, 4_094));
+    assert_eq!((streams::KIND_DESTINATION, streams::KIND_SOURCE), (1, 2));
+    let choices = (streams::CHOICE_TAGGED, streams::CHOICE_PRIORITY, streams::CHOICE_ALL);
+    assert_eq!(choices, (1, 2, 3));
+    assert_eq!(streams::VLAN_ANY, 0);
+    assert_eq!((streams::ENTRY_OCTETS, streams::ENTRIES, streams::LONGEST), (12, 256, 3_072));
+    assert_eq!(Setup::HISTORY, 2..=64);
+    assert_eq!(Setup::TIMEOUT, Milliseconds(1)..=Milliseconds(3_600_000));
+    assert_eq!(Setup::RATE, TicksPerSecond(1)..=TicksPerSecond(10_000));
+    assert_eq!(Setup::PATHS, 2..=8);
+    // The format, seven numbers of the setup, four of the window, eight counters and the base.
+    assert_eq!(WORDS, 21);
+    assert_eq!((cards::KIND_END, cards::KIND_FLUSH_ORDER), (0x00, 0x10));
+    assert_eq!((cards::KIND_RAW_CODE, cards::KIND_MILLIVOLTS), (0x11, 0x12));
+    assert_eq!(cards::FLUSH_ORDER_OCTETS, 5);
+    assert_eq!((cards::RAW_CODE_OCTETS, cards::MILLIVOLTS_OCTETS), (3, 3));
+    assert_eq!((tape::KIND_NUMBERED, tape::KIND_TAGLESS), (0x01, 0x02));
+    assert_eq!((tape::KIND_TICK, tape::KIND_RESET), (0x03, 0x04));
+    assert_eq!((tape::KIND_LATENT_RESET, tape::KIND_LATENT_TEST), (0x05, 0x06));
+    assert_eq!((tape::KIND_SETUP, tape::LONGEST), (0x0F, 4_096));
+    assert_eq!((STACK, tape::STACK, tape::OUTPUT), (256, 54_784, 53_479));
+}
+
+#[test]
+fn a_walk_ends_at_an_end_and_behind_a_refusal() {
+    let card = Card::RawCode(RawCode(258));
+    for (payload, last) in [
+        (&[0x11, 1, 2][..], None),
+        (&[0x11, 1, 2, 0, 0x11, 1, 2], None),
+        (&[0x11, 1, 2, 0x13, 0x11, 1, 2], Some(Err(Refusal::CARD_KIND))),
+        (&[0x11, 1, 2, 0x12, 0], Some(Err(Refusal::CARD_CUT))),
+    ] {
+        let mut walk = cards::walk(payload);
+        assert_eq!(walk.rest(), payload);
+        assert_eq!(walk.next(), Some(Ok(card)));
+        assert_eq!(walk.rest(), &payload[3..]);
+        assert_eq!(walk.next(), last);
+        assert_eq!((walk.next(), walk.next(), walk.rest()), (None, None, &[][..]));
+    }
+}
+
+#[test]
+fn readings_end_at_an_end_and_behind_a_refusal() {
+    let calibration = Calibration { gain: 0.25, offset: 0.5 };
+    let payload = [0x10, 0, 0, 0, 1, 0x11, 0, 10, 0x12, 0, 250, 0, 0x12, 0, 1];
+    let readings: Vec<_> = cards::readings(&payload, calibration).collect();
+    let expected = [
+        Ok(Reading::NotAReading),
+        Ok(Reading::FromRawCode(Volts(3.0))),
+        Ok(Reading::FromMillivolts(Volts(0.25))),
+    ];
+    assert_eq!(readings, expected);
+    assert_eq!(cards::next(&payload[8..]), Ok(Card::Millivolts(Millivolts(250))));
+    let steep = Calibration { gain: 2.0, ..calibration };
+    for (payload, calibration, refusal) in [
+        (&payload[..], steep, Refusal::CALIBRATION),
+        (&[], steep, Refusal::CALIBRATION),
+        (&[0x99], calibration, Refusal::CARD_KIND),
+        (&[0x11], calibration, Refusal::CARD_CUT),
+    ] {
+        let mut readings = cards::readings(payload, calibration);
+        assert_eq!(readings.next(), Some(Err(refusal)));
+        assert_eq!((readings.next(), readings.next()), (None, None));
+    }
+}
+
+#[test]
+fn words_that_hold_no_state_make_none() {
+    let setup = Setup {
+        rule: Rule::Vector,
+        take_tagless: true,
+        history: 64,
+        timeout: Milliseconds(3_600_000),
+        rate: TicksPerSecond(10_000),
+        paths: 8,
+        difference: u32::MAX,
+    };
+    let state = State::fresh(&setup).unwrap();
+    assert_eq!(State::from_words(*state.words()), Ok(state.clone()));
+    assert_eq!((state.setup(), state.newest()), (setup, None));
+    assert_eq!(State::from_words([0; WORDS]), Err(Refusal::STATE));
+    assert_eq!(State::from_words([u64::MAX; WORDS]), Err(Refusal::STATE));
+    let bad = Setup { history: 65, ..setup };
+    assert_eq!((bad.check(), State::fresh(&bad)), (Err(Refusal::HISTORY), Err(Refusal::HISTORY)));
+}
+
+#[test]
+fn a_generator_stored_goes_on() {
+    let mut generator = Generator::from_number(65_535);
+    assert_eq!((generator.generate(), generator.number()), (65_535, 0));
+    assert_eq!(generator, Generator::default());
+    assert_eq!(generator.generate(), 0);
+    generator.reset();
+    assert_eq!(generator, Generator::fresh());
+}

@@ -1,0 +1,336 @@
+/* Document 01 as small functions, which say what is expected of the layer. They are written from the paper, and are slow and plain: no bit
+ * is counted at once, and marks are an array. None of them calls the layer. */
+#ifndef PAPER_H
+#define PAPER_H
+
+#include <ahozurime.h>
+
+#include <stdio.h>
+#include <string.h>
+
+static inline uint32_t big_endian(const uint8_t *octets, size_t count) {
+    uint32_t number = 0;
+    size_t i;
+    for (i = 0; i < count; i++) number = number * 256 + octets[i];
+    return number;
+}
+
+/* ---- Reading a frame ---- */
+
+typedef struct {
+    uint8_t refusal;
+    uint64_t words[8]; /* destination, source, tagged, VLAN, numbered, number, type, start of the payload */
+    size_t tag;        /* where the R-TAG is, or would be */
+} PaperFrame;
+
+static inline PaperFrame paper_read(const uint8_t *frame, size_t octets) {
+    PaperFrame got = {0, {0, 0, 0, 0, 0, 0, 0, 0}, 12};
+    size_t at = 12;
+    if (octets < 14) got.refusal = 1;
+    else if (octets > 1522) got.refusal = 2;
+    if (got.refusal != 0) return got;
+    got.words[0] = ((uint64_t)big_endian(frame, 2) << 32) + big_endian(frame + 2, 4);
+    got.words[1] = ((uint64_t)big_endian(frame + 6, 2) << 32) + big_endian(frame + 8, 4);
+    if (big_endian(frame + at, 2) == 0x8100) {
+        if (octets < at + 4 + 2) got.refusal = 3;
+        else if (big_endian(frame + at + 2, 2) % 4096 == 4095) got.refusal = 5;
+        else if (big_endian(frame + at + 4, 2) == 0x8100) got.refusal = 4;
+        if (got.refusal != 0) return got;
+        got.words[2] = 1;
+        got.words[3] = big_endian(frame + at + 2, 2) % 4096;
+        at += 4;
+    }
+    got.tag = at;
+    if (big_endian(frame + at, 2) == 0xF1C1) {
+        if (octets < at + 6 + 2) got.refusal = 3;
+        else if (big_endian(frame + at + 6, 2) == 0x8100 || big_endian(frame + at + 6, 2) == 0xF1C1) got.refusal = 4;
+        if (got.refusal != 0) return got;
+        got.words[4] = 1;
+        got.words[5] = big_endian(frame + at + 4, 2);
+        at += 6;
+    }
+    got.words[6] = big_endian(frame + at, 2);
+    got.words[7] = at + 2;
+    return got;
+}
+
+/* ---- Stream tables ---- */
+
+static inline uint8_t paper_check_table(const uint8_t *table, size_t octets) {
+    size_t at, entry = 0;
+    for (at = 0; at < octets; at += 12) {
+        if (++entry == 257) return 13;
+        if (table[at] != 1 && table[at] != 2) return 10;
+        if (octets - at < 12) return 11;
+        if (table[at + 7] < 1 || table[at + 7] > 3 || big_endian(table + at + 8, 2) > 4094) return 12;
+    }
+    return 0;
+}
+
+static inline uint8_t paper_lookup(const uint8_t *table, size_t table_octets, const uint8_t *frame, size_t octets, uint16_t *handle) {
+    const uint8_t bad = paper_check_table(table, table_octets);
+    const PaperFrame got = paper_read(frame, octets);
+    size_t at;
+    if (bad != 0) return bad;
+    if (got.refusal != 0) return got.refusal;
+    for (at = 0; at < table_octets; at += 12) {
+        const uint8_t choice = table[at + 7];
+        const uint32_t vlan = big_endian(table + at + 8, 2);
+        const int allowed = choice == 3 || (choice == 1 && got.words[2] == 1) || (choice == 2 && got.words[3] == 0);
+        if (memcmp(table + at + 1, table[at] == 1 ? frame : frame + 6, 6) == 0 && allowed && (vlan == 0 || vlan == got.words[3])) {
+            *handle = (uint16_t)big_endian(table + at + 10, 2);
+            return AHZ_STREAM;
+        }
+    }
+    return AHZ_NO_STREAM;
+}
+
+/* ---- Numbering and recovery ---- */
+
+typedef struct {
+    uint64_t rule, taken, history, ms, rate, paths, difference;
+} PaperSetup;
+
+typedef struct {
+    PaperSetup setup;
+    uint64_t newest, marks[64], take_any, left;
+    uint64_t passed, discarded, order, rogue, lost, tagless, resets, latent_resets, base;
+} PaperState;
+
+static inline uint64_t paper_ticks(uint64_t ms, uint64_t rate) {
+    return (ms * rate + 999) / 1000;
+}
+
+static inline uint8_t paper_check_setup(PaperSetup setup) {
+    if (setup.rule > 1) return 15;
+    if (setup.taken > 1) return 27;
+    if (setup.history < 2 || setup.history > 64) return 16;
+    if (setup.ms < 1 || setup.ms > 3600000) return 17;
+    if (setup.rate < 1 || setup.rate > 10000) return 18;
+    if (setup.paths < 2 || setup.paths > 8) return 19;
+    return 0;
+}
+
+static inline void paper_clear(PaperState *state) {
+    memset(state->marks, 0, sizeof state->marks);
+    state->newest = 65535;
+    state->take_any = 1;
+    state->left = 0;
+}
+
+static inline PaperState paper_fresh(PaperSetup setup) {
+    PaperState state;
+    memset(&state, 0, sizeof state);
+    state.setup = setup;
+    paper_clear(&state);
+    return state;
+}
+
+/* Where each word of a state is kept; not the format, 0, nor the marks, 9. */
+static inline uint64_t *paper_field(PaperState *state, unsigned word) {
+    uint64_t *const fields[] = {&state->setup.rule, &state->setup.taken, &state->setup.history, &state->setup.ms, &state->setup.rate,
+                                &state->setup.paths, &state->setup.difference, &state->newest, NULL, &state->take_any, &state->left,
+                                &state->passed, &state->discarded, &state->order, &state->rogue, &state->lost, &state->tagless,
+                                &state->resets, &state->latent_resets, &state->base};
+    return word == 0 ? NULL : fields[word - 1];
+}
+
+static inline void paper_words(PaperState *state, uint64_t *words) {
+    unsigned k;
+    words[0] = 0x41485A01;
+    words[9] = 0;
+    for (k = 0; k < 64; k++) words[9] += state->marks[k] << k;
+    for (k = 0; k < 21; k++) {
+        if (paper_field(state, k) != NULL) words[k] = *paper_field(state, k);
+    }
+}
+
+/* The state of those words: 0 where they are not those of a sound one. */
+static inline int paper_state(const uint64_t *words, PaperState *state) {
+    uint64_t any_mark = 0;
+    unsigned k;
+    for (k = 0; k < 21; k++) {
+        if (paper_field(state, k) != NULL) *paper_field(state, k) = words[k];
+    }
+    for (k = 0; k < 64; k++) {
+        state->marks[k] = words[9] >> k & 1;
+        any_mark |= state->marks[k];
+    }
+    if (words[0] != 0x41485A01 || paper_check_setup(state->setup) != 0 || state->setup.difference > UINT32_MAX) return 0;
+    for (k = 0; k < 64; k++) {
+        if (k >= state->setup.history && state->marks[k] == 1) return 0;
+    }
+    if (state->newest > 65535 || state->take_any > 1) return 0;
+    if (state->take_any == 1 && (state->newest != 65535 || any_mark)) return 0;
+    if (state->take_any == 0 && state->left < 1) return 0;
+    if (state->take_any == 0 && state->setup.rule == 0 && state->marks[0] == 0) return 0;
+    if (state->setup.rule == 1 && any_mark) return 0;
+    return state->left <= paper_ticks(state->setup.ms, state->setup.rate);
+}
+
+static inline uint8_t paper_verdict(PaperState *state, int passes) {
+    if (!passes) {
+        state->discarded++;
+        return AHZ_DISCARD;
+    }
+    state->passed++;
+    state->left = paper_ticks(state->setup.ms, state->setup.rate);
+    return AHZ_PASS;
+}
+
+static inline uint8_t paper_numbered(PaperState *state, uint16_t number) {
+    const int history = (int)state->setup.history;
+    int d = (int)((number - state->newest) % 65536), moves;
+    if (d >= 32768) d -= 65536;
+    if (state->take_any == 1) {
+        state->newest = number;
+        state->marks[0] = state->setup.rule == 0;
+        state->take_any = 0;
+        return paper_verdict(state, 1);
+    }
+    if (state->setup.rule == 1) {
+        if (d == 0) return paper_verdict(state, 0);
+        if (d != 1) state->order++;
+        state->newest = number;
+        return paper_verdict(state, 1);
+    }
+    if (d >= history || d <= -history) {
+        state->rogue++;
+        return paper_verdict(state, 0);
+    }
+    if (d <= 0) {
+        if (state->marks[-d] == 1) return paper_verdict(state, 0);
+        state->marks[-d] = 1;
+        state->order++;
+        return paper_verdict(state, 1);
+    }
+    if (d != 1) state->order++;
+    for (moves = 0; moves < d; moves++) {
+        int k;
+        if (state->marks[history - 1] == 0) state->lost++;
+        for (k = history - 1; k > 0; k--) state->marks[k] = state->marks[k - 1];
+        state->marks[0] = 0;
+    }
+    state->marks[0] = 1;
+    state->newest = number;
+    return paper_verdict(state, 1);
+}
+
+static inline uint64_t paper_figure(const PaperState *state) {
+    return state->passed * (state->setup.paths - 1) - state->discarded;
+}
+
+/* One event by the tape's kind of it. */
+static inline uint8_t paper_event(PaperState *state, uint8_t kind, uint16_t number) {
+    uint64_t apart;
+    switch (kind) {
+    case 1: return paper_numbered(state, number);
+    case 2:
+        state->tagless++;
+        return paper_verdict(state, state->setup.taken == 1);
+    case 3:
+        if (state->left != 1) {
+            if (state->left > 0) state->left--;
+            return AHZ_TICK;
+        }
+        paper_clear(state);
+        state->resets++;
+        return AHZ_RESET;
+    case 4:
+        paper_clear(state);
+        state->resets++;
+        return AHZ_DONE;
+    case 5:
+        state->base = paper_figure(state);
+        state->latent_resets++;
+        return AHZ_DONE;
+    default:
+        apart = state->base - paper_figure(state);
+        if (apart >> 63 == 1) apart = 0 - apart;
+        return apart > state->setup.difference ? AHZ_LATENT_ERROR : AHZ_LATENT_OK;
+    }
+}
+
+/* ---- Charge cards ---- */
+
+typedef struct {
+    uint8_t answer;
+    uint32_t value;
+    size_t octets, rest;
+} PaperCard;
+
+static inline PaperCard paper_card(const uint8_t *payload, size_t octets) {
+    PaperCard card = {AHZ_END, 0, 0, 0};
+    const uint8_t kind = octets == 0 ? 0 : payload[0];
+    const size_t number = kind == 0x10 ? 4 : 2;
+    if (kind == 0) return card;
+    if (kind < 0x10 || kind > 0x12) card.answer = 20;
+    else if (octets < 1 + number) card.answer = 21;
+    if (card.answer != AHZ_END) return card;
+    card.answer = kind == 0x10 ? AHZ_FLUSH_ORDER : kind == 0x11 ? AHZ_RAW_CODE : AHZ_MILLIVOLTS;
+    card.value = big_endian(payload + 1, number);
+    card.octets = 1 + number;
+    card.rest = octets - card.octets;
+    return card;
+}
+
+static inline uint8_t paper_volts(const uint8_t *payload, size_t octets, double gain, double offset, double *volts) {
+    const PaperCard card = paper_card(payload, octets);
+    if (!(gain > 0 && gain <= 1 && offset >= -100 && offset <= 100)) return 22;
+    if (card.answer == 20 || card.answer == 21) return card.answer;
+    if (card.answer == AHZ_RAW_CODE) {
+        const volatile double product = card.value * gain; /* so that it is rounded by itself */
+        *volts = product + offset;
+        return AHZ_FROM_RAW_CODE;
+    }
+    if (card.answer == AHZ_MILLIVOLTS) {
+        *volts = card.value / 1000.0;
+        return AHZ_FROM_MILLIVOLTS;
+    }
+    return AHZ_NOT_A_READING;
+}
+
+/* ---- The bench tape ---- */
+
+/* Writes the output and a zero after it, and answers its length. */
+static inline size_t paper_tape(const uint8_t *tape, size_t octets, char *out) {
+    PaperState state;
+    char *to = out;
+    size_t at = 0;
+    unsigned fault = octets > 4096 ? 26 : octets == 0 ? 25 : 0;
+    memset(&state, 0, sizeof state);
+    while (fault == 0 && at < octets) {
+        const uint8_t kind = tape[at], *body = tape + at + 1;
+        const size_t body_octets = kind == 1 ? 2 : kind == 0x0F ? 15 : 0;
+        if (kind != 0x0F && (kind < 1 || kind > 6)) fault = 23;
+        else if (octets - at - 1 < body_octets) fault = 24;
+        else if ((at == 0) != (kind == 0x0F)) fault = 25;
+        else if (kind == 0x0F) {
+            PaperSetup setup;
+            setup.rule = body[0];
+            setup.taken = body[1];
+            setup.history = big_endian(body + 2, 2);
+            setup.ms = big_endian(body + 4, 4);
+            setup.rate = big_endian(body + 8, 2);
+            setup.paths = body[10];
+            setup.difference = big_endian(body + 11, 4);
+            fault = paper_check_setup(setup);
+            state = paper_fresh(setup);
+            if (fault == 0) to += sprintf(to, "ok\n");
+        } else {
+            const uint8_t answer = paper_event(&state, kind, (uint16_t)(kind == 1 ? big_endian(body, 2) : 0));
+            to += sprintf(to, "%s\n", kind == 4 ? "reset" : kind == 5 ? "latent reset" : answer == AHZ_PASS ? "pass"
+                          : answer == AHZ_DISCARD ? "discard" : answer == AHZ_TICK ? "tick" : answer == AHZ_RESET ? "reset"
+                          : answer == AHZ_LATENT_OK ? "latent ok" : "latent error");
+        }
+        at += 1 + body_octets;
+    }
+    if (fault != 0) return (size_t)(to - out) + (size_t)sprintf(to, "fault %u\n", fault);
+    to += sprintf(to, "passed=%llu discarded=%llu order=%llu rogue=%llu", (unsigned long long)state.passed,
+                  (unsigned long long)state.discarded, (unsigned long long)state.order, (unsigned long long)state.rogue);
+    to += sprintf(to, " lost=%llu tagless=%llu resets=%llu latent-resets=%llu\n", (unsigned long long)state.lost,
+                  (unsigned long long)state.tagless, (unsigned long long)state.resets, (unsigned long long)state.latent_resets);
+    return (size_t)(to - out);
+}
+
+#endif

@@ -1,0 +1,174 @@
+/* How much stack each call takes: it runs on a painted stack of its own, and what is no longer painted afterwards is counted. Each call
+ * goes its ways, good and refused. In the figure is a little of this program's own, and what memcpy and memset take. It prints the figures,
+ * and ends with 1 where one is above the bound that the header states. Needs the contexts of POSIX. */
+#define _XOPEN_SOURCE 700
+#include <ahozurime.h>
+
+#include <stdio.h>
+#include <string.h>
+#include <ucontext.h>
+
+enum { ROOM = 4 * AHZ_TAPE_STACK };
+
+static union {
+    uint8_t octets[ROOM];
+    long double aligned;
+} stack;
+static ucontext_t here, there;
+
+/* The octets of the stack that the function changed. */
+static size_t changed(void (*function)(void), uint8_t paint) {
+    size_t still;
+    memset(stack.octets, paint, ROOM);
+    if (getcontext(&there) != 0) return ROOM;
+    there.uc_stack.ss_sp = stack.octets;
+    there.uc_stack.ss_size = ROOM;
+    there.uc_link = &here;
+    makecontext(&there, function, 0);
+    if (swapcontext(&here, &there) != 0) return ROOM;
+    for (still = 0; still < ROOM && stack.octets[still] == paint;) still++;
+    return ROOM - still;
+}
+
+/* Under two paints, since one might be what it wrote. */
+static size_t taken(void (*function)(void)) {
+    const size_t first = changed(function, 0xA5);
+    const size_t second = changed(function, 0x5A);
+    return first > second ? first : second;
+}
+
+#define ADDRESSES 0x02, 0, 0, 0, 0, 0x07, 0x02, 0, 0, 0, 0, 0x01
+static const uint8_t plain[] = {ADDRESSES, 0x88, 0xB5, 0xAA, 0xBB, 0xCC};
+static const uint8_t tagged[] = {ADDRESSES, 0x81, 0x00, 0x20, 0x05, 0x88, 0xB5, 0xAA, 0xBB, 0xCC};
+static const uint8_t numbered[] = {ADDRESSES, 0xF1, 0xC1, 0x00, 0x00, 0x01, 0x02, 0x88, 0xB5, 0xAA, 0xBB, 0xCC};
+static const uint8_t both[] = {ADDRESSES, 0x81, 0x00, 0x20, 0x05, 0xF1, 0xC1, 0x00, 0x00, 0x01, 0x02, 0x88, 0xB5, 0xAA, 0xBB, 0xCC};
+static const struct {
+    const uint8_t *octets;
+    size_t count;
+} frames[] = {{plain, 0}, {plain, sizeof plain}, {tagged, 17}, {tagged, sizeof tagged}, {numbered, sizeof numbered}, {both, 23},
+              {both, sizeof both}};
+enum { FRAMES = sizeof frames / sizeof frames[0] };
+static const uint8_t table[] = {2, 0x02, 0, 0, 0, 0, 0x06, 1, 0, 5, 0, 8, 1, 0x02, 0, 0, 0, 0, 0x07, 3, 0, 0, 0, 7};
+static const uint8_t payload[] = {0x10, 0, 0, 0, 1, 0x11, 0, 10, 0x12, 0x0F, 0xA0, 0x00, 0x13};
+static const uint8_t tape[] = {0x0F, 0, 0, 0, 4, 0, 0, 0, 100, 0, 100, 2, 0, 0, 0, 1, 1, 0, 10, 1, 0, 10, 2, 3, 1, 0, 20, 4, 5, 6};
+
+static uint64_t state[AHZ_S_WORDS], header[AHZ_H_WORDS];
+static uint8_t out[AHZ_TAPE_OUTPUT];
+static size_t length;
+static uint16_t handle;
+static uint32_t value;
+static double volts;
+static volatile uint64_t answer; /* so that no answer is unused */
+static unsigned i, rule;
+
+static void none(void) { answer = 0; }
+static void version(void) { answer = ahz_version(); }
+static void reading(void) {
+    for (i = 0; i < FRAMES; i++) answer = ahz_read(frames[i].octets, frames[i].count, header, AHZ_H_WORDS);
+}
+static void part(void) {
+    for (i = 0; i < FRAMES; i++) answer = ahz_payload(frames[i].octets, frames[i].count);
+}
+static void insertion(void) {
+    for (i = 0; i < FRAMES; i++) answer = ahz_insert(frames[i].octets, frames[i].count, 258, out, sizeof out, &length);
+}
+static void removal(void) {
+    for (i = 0; i < FRAMES; i++) answer = ahz_remove(frames[i].octets, frames[i].count, out, sizeof out, &length);
+}
+static void table_check(void) {
+    for (i = 0; i <= sizeof table; i++) answer = ahz_check_table(table, i);
+}
+static void lookup(void) {
+    for (i = 0; i < FRAMES; i++) answer = ahz_lookup(table, sizeof table, frames[i].octets, frames[i].count, &handle);
+}
+static void generator(void) { answer = ahz_generator(); }
+static void generation(void) { answer = ahz_generate(&handle); }
+static void generator_reset(void) { ahz_generator_reset(&handle); }
+static void ticks(void) { answer = ahz_ticks(11, 100); }
+static void setup_check(void) {
+    for (i = 0; i < 3; i++) answer = ahz_check_setup((uint8_t)i, 0, 8, 100, 100, 2, 1);
+}
+static void fresh(void) {
+    for (i = 0; i < 3; i++) answer = ahz_fresh((uint8_t)(2 - i), 0, 8, 100, 100, 2, 1, state, AHZ_S_WORDS);
+}
+/* Under both rules: a first packet, then each difference, near and far; and a state that is not sound. */
+static void packets(void) {
+    for (rule = 0; rule < 2; rule++) {
+        answer = ahz_fresh((uint8_t)rule, 0, 8, 100, 100, 2, 1, state, AHZ_S_WORDS);
+        for (i = 0; i < 40; i++) answer = ahz_numbered(state, AHZ_S_WORDS, (uint16_t)(i * 7 % 20 + i));
+    }
+    answer = ahz_numbered(state, 0, 0);
+}
+static void tagless(void) {
+    for (i = 0; i < 2; i++) {
+        answer = ahz_fresh(0, (uint8_t)i, 8, 100, 100, 2, 1, state, AHZ_S_WORDS);
+        answer = ahz_tagless(state, AHZ_S_WORDS);
+    }
+    answer = ahz_tagless(state, 0);
+}
+static void tick(void) {
+    for (i = 0; i < 12; i++) answer = ahz_tick(state, AHZ_S_WORDS);
+    answer = ahz_tick(state, 0);
+}
+static void resets(void) {
+    answer = ahz_reset(state, AHZ_S_WORDS);
+    answer = ahz_reset(state, 0);
+}
+static void latent_reset(void) {
+    answer = ahz_latent_reset(state, AHZ_S_WORDS);
+    answer = ahz_latent_reset(state, 0);
+}
+static void latent_test(void) {
+    answer = ahz_latent_test(state, AHZ_S_WORDS);
+    answer = ahz_latent_test(state, 0);
+}
+static void card(void) {
+    for (i = 0; i < sizeof payload; i++) answer = ahz_card(payload + i, sizeof payload - i, &value);
+}
+static void card_part(void) {
+    for (i = 0; i < sizeof payload; i++) answer = ahz_card_octets(payload + i, sizeof payload - i);
+}
+static void rest_part(void) {
+    for (i = 0; i < sizeof payload; i++) answer = ahz_rest_octets(payload + i, sizeof payload - i);
+}
+static void reading_volts(void) {
+    for (i = 0; i < sizeof payload; i++) answer = ahz_volts(payload + i, sizeof payload - i, 0.25, 0.5, &volts);
+}
+static void bench(void) {
+    for (i = 0; i <= sizeof tape; i++) answer = ahz_tape(tape, i, out, sizeof out, &length);
+    answer = ahz_tape(tape, sizeof tape, out, 0, &length);
+}
+
+int main(void) {
+    static const struct {
+        const char *call;
+        void (*function)(void);
+        size_t bound;
+    } calls[] = {
+        {"ahz_version", version, AHZ_STACK},         {"ahz_read", reading, AHZ_STACK},
+        {"ahz_payload", part, AHZ_STACK},            {"ahz_insert", insertion, AHZ_STACK},
+        {"ahz_remove", removal, AHZ_STACK},          {"ahz_check_table", table_check, AHZ_STACK},
+        {"ahz_lookup", lookup, AHZ_STACK},           {"ahz_generator", generator, AHZ_STACK},
+        {"ahz_generate", generation, AHZ_STACK},     {"ahz_generator_reset", generator_reset, AHZ_STACK},
+        {"ahz_ticks", ticks, AHZ_STACK},             {"ahz_check_setup", setup_check, AHZ_STACK},
+        {"ahz_fresh", fresh, AHZ_STACK},             {"ahz_numbered", packets, AHZ_STACK},
+        {"ahz_tagless", tagless, AHZ_STACK},         {"ahz_tick", tick, AHZ_STACK},
+        {"ahz_reset", resets, AHZ_STACK},            {"ahz_latent_reset", latent_reset, AHZ_STACK},
+        {"ahz_latent_test", latent_test, AHZ_STACK}, {"ahz_card", card, AHZ_STACK},
+        {"ahz_card_octets", card_part, AHZ_STACK},   {"ahz_rest_octets", rest_part, AHZ_STACK},
+        {"ahz_volts", reading_volts, AHZ_STACK},     {"ahz_tape", bench, AHZ_TAPE_STACK},
+    };
+    const size_t own = taken(none);
+    int failed = 0;
+    unsigned k;
+    for (k = 0; k < sizeof calls / sizeof calls[0]; k++) {
+        const size_t most = taken(calls[k].function);
+        const size_t octets = most - own;
+        printf("%-20s %6u octets of stack\n", calls[k].call, (unsigned)octets);
+        if (most < own || octets > calls[k].bound) {
+            printf("tests/c/stack.c: %s takes more than %u\n", calls[k].call, (unsigned)calls[k].bound);
+            failed = 1;
+        }
+    }
+    return failed;
+}

@@ -1,0 +1,384 @@
+/* Numbering, ticks, setups and recovery, and their typed forms: all 21 words of a state after each event against document 01, in long runs
+ * of events from fresh states, and from states of every kind, sound and not, with counters that wrap. */
+#include "check.h"
+#include "paper.h"
+
+static Space space;
+
+/* ---- Numbering, ticks, setups ---- */
+
+static void numbering(void) {
+    uint16_t *generator;
+    ahz_generator_t *typed, fresh = ahz_generator_fresh();
+    uint32_t number;
+    EXPECT(ahz_generator() == 0 && fresh.next == 0);
+    for (number = 0; number < 65536; number++) {
+        const uint16_t now = (uint16_t)number, next = (uint16_t)(number == 65535 ? 0 : number + 1);
+        generator = (uint16_t *)lend_aligned(&space, &now, sizeof now);
+        EXPECT(ahz_generate(generator) == now && holds(&space, &next, sizeof next));
+        typed = (ahz_generator_t *)lend_aligned(&space, &now, sizeof now);
+        EXPECT(ahz_generator_next(typed) == now && holds(&space, &next, sizeof next));
+        generator = (uint16_t *)lend_aligned(&space, &now, sizeof now);
+        ahz_generator_reset(generator);
+        EXPECT(holds(&space, &fresh, sizeof now));
+        typed = (ahz_generator_t *)lend_aligned(&space, &now, sizeof now);
+        ahz_generator_restart(typed);
+        EXPECT(holds(&space, &fresh, sizeof now));
+    }
+}
+
+static void expect_ticks(uint32_t ms, uint16_t rate) {
+    EXPECT(ahz_ticks(ms, rate) == paper_ticks(ms, rate));
+    EXPECT(ahz_full_ticks(ahz_milliseconds(ms), ahz_rate(rate)).ticks == paper_ticks(ms, rate));
+}
+
+static void ticks(void) {
+    static const uint32_t ms[] = {0, 1, 2, 3, 4, 9, 10, 11, 25, 99, 100, 101, 999, 1000, 1001, 3003, 3004, 65535, 65536, 429496, 429497,
+                                  1000000, 3599999, 3600000, 3600001, 0x7FFFFFFF, 0x80000000, 0xFFFFFFFF};
+    static const uint16_t rates[] = {0, 1, 2, 3, 10, 99, 100, 101, 255, 256, 333, 999, 1000, 1001, 9999, 10000, 10001, 32768, 65535};
+    size_t i, k;
+    EXPECT(ahz_ticks(100, 100) == 10 && ahz_ticks(1, 100) == 1 && ahz_ticks(11, 100) == 2);
+    EXPECT(ahz_ticks(UINT32_MAX, UINT16_MAX) == UINT64_C(281470681678)); /* 281,470,681,677,825 / 1000 */
+    for (i = 0; i < COUNT(ms); i++) {
+        for (k = 0; k < COUNT(rates); k++) expect_ticks(ms[i], rates[k]);
+    }
+    for (i = 0; i < 3000; i++) expect_ticks((uint32_t)(roll() >> (32 + roll() % 24)), (uint16_t)(roll() >> (48 + roll() % 12)));
+    EXPECT(ahz_milliseconds(3600000).ms == 3600000 && ahz_rate(10000).per_second == 10000);
+}
+
+/* A setup alone, and for a fresh state in so many words, both as bare numbers and typed. */
+static void expect_setup(PaperSetup s, size_t words) {
+    const uint8_t refusal = paper_check_setup(s), answer = refusal == 0 && words < 21 ? 8 : refusal;
+    const uint8_t rule = (uint8_t)s.rule, taken = (uint8_t)s.taken, paths = (uint8_t)s.paths;
+    const uint16_t history = (uint16_t)s.history, rate = (uint16_t)s.rate;
+    const uint32_t ms = (uint32_t)s.ms, difference = (uint32_t)s.difference;
+    PaperState state = paper_fresh(s);
+    uint64_t expected[AHZ_S_WORDS], *lent = (uint64_t *)lend_aligned(&space, NULL, words * 8);
+    ahz_setup_t setup;
+    paper_words(&state, expected);
+    setup.rule = rule;
+    setup.taken = taken;
+    setup.history = history;
+    setup.timeout = ahz_milliseconds(ms);
+    setup.rate = ahz_rate(rate);
+    setup.paths = paths;
+    setup.difference = difference;
+    EXPECT(ahz_check_setup(rule, taken, history, ms, rate, paths, difference) == refusal && ahz_setup_check(setup) == refusal);
+    EXPECT(ahz_fresh(rule, taken, history, ms, rate, paths, difference, lent, words) == answer);
+    EXPECT(holds(&space, expected, answer == 0 ? sizeof expected : 0));
+    if (words == AHZ_S_WORDS) {
+        ahz_state_t *typed = (ahz_state_t *)lend_aligned(&space, NULL, sizeof(ahz_state_t));
+        EXPECT(ahz_state_fresh(typed, setup) == refusal && holds(&space, expected, refusal == 0 ? sizeof expected : 0));
+    }
+}
+
+static void setups(void) {
+    static const uint8_t flags[] = {0, 1, 2, 255}, paths[] = {0, 1, 2, 3, 8, 9, 255};
+    static const uint16_t histories[] = {0, 1, 2, 64, 65, 258, 65535}, rates[] = {0, 1, 333, 10000, 10001, 65535};
+    static const uint32_t ms[] = {0, 1, 3600000, 3600001, 0x80000000, 0x80000001}, differences[] = {0, 1, 0x80000000, 0xFFFFFFFF};
+    size_t r, t, h, m, k, p, d = 0;
+    PaperSetup s;
+    for (r = 0; r < COUNT(flags); r++) {
+        for (t = 0; t < COUNT(flags); t++) {
+            for (h = 0; h < COUNT(histories); h++) {
+                for (m = 0; m < COUNT(ms); m++) {
+                    for (k = 0; k < COUNT(rates); k++) {
+                        for (p = 0; p < COUNT(paths); p++) {
+                            s.rule = flags[r];
+                            s.taken = flags[t];
+                            s.history = histories[h];
+                            s.ms = ms[m];
+                            s.rate = rates[k];
+                            s.paths = paths[p];
+                            s.difference = differences[d++ % COUNT(differences)];
+                            expect_setup(s, AHZ_S_WORDS);
+                            if (d % 16 == 0) expect_setup(s, d % 25);
+                        }
+                    }
+                }
+            }
+        }
+    }
+    s.rule = s.taken = 0;
+    s.history = 4;
+    s.ms = s.rate = 100;
+    s.paths = 2;
+    s.difference = 1;
+    for (d = 0; d < 26; d++) expect_setup(s, d);
+}
+
+/* ---- Recovery ---- */
+
+/* One event by the tape's kind of it. */
+static uint8_t event(uint64_t *words, size_t count, uint8_t kind, uint16_t number) {
+    switch (kind) {
+    case 1: return ahz_numbered(words, count, number);
+    case 2: return ahz_tagless(words, count);
+    case 3: return ahz_tick(words, count);
+    case 4: return ahz_reset(words, count);
+    case 5: return ahz_latent_reset(words, count);
+    default: return ahz_latent_test(words, count);
+    }
+}
+
+static uint8_t typed_event(ahz_state_t *state, uint8_t kind, uint16_t number) {
+    switch (kind) {
+    case 1: return ahz_state_numbered(state, number);
+    case 2: return ahz_state_tagless(state);
+    case 3: return ahz_state_tick(state);
+    case 4: return ahz_state_reset(state);
+    case 5: return ahz_state_latent_reset(state);
+    default: return ahz_state_latent_test(state);
+    }
+}
+
+/* An event on words that the paper takes for a state, or does not; the words go on to the next state's. */
+static uint8_t expect_event(uint64_t *words, uint8_t kind, uint16_t number) {
+    PaperState state;
+    uint64_t next[AHZ_S_WORDS], longer[AHZ_S_WORDS + 5], *lent;
+    uint8_t answer = AHZ_R_STATE;
+    size_t written = 0;
+    memcpy(next, words, sizeof next);
+    if (paper_state(words, &state)) {
+        answer = paper_event(&state, kind, number);
+        written = kind == 6 ? 0 : sizeof next;
+        paper_words(&state, next);
+    }
+    lent = (uint64_t *)lend_aligned(&space, words, sizeof next);
+    EXPECT(event(lent, AHZ_S_WORDS, kind, number) == answer);
+    EXPECT(holds(&space, next, written));
+    memset(longer, 0xC7, sizeof longer);
+    memcpy(longer, words, sizeof next);
+    lent = (uint64_t *)lend_aligned(&space, longer, sizeof longer);
+    EXPECT(event(lent, AHZ_S_WORDS + 5, kind, number) == answer);
+    EXPECT(holds(&space, next, written));
+    lent = (uint64_t *)lend_aligned(&space, words, sizeof next);
+    EXPECT(typed_event((ahz_state_t *)(void *)lent, kind, number) == answer);
+    EXPECT(holds(&space, next, written));
+    memcpy(words, next, sizeof next);
+    return answer;
+}
+
+/* One of each kind on the same words, the packets near the newest number, about the ends of the window, and far away. */
+static void expect_each(const uint64_t *words) {
+    const int near[] = {0, 1, -1, 2, (int)words[3] - 1, (int)words[3], 1 - (int)words[3], -(int)words[3], 32767, -32768, -32767};
+    uint64_t copy[AHZ_S_WORDS];
+    size_t i;
+    uint8_t kind;
+    for (kind = 2; kind <= 6; kind++) {
+        memcpy(copy, words, sizeof copy);
+        (void)expect_event(copy, kind, 0);
+    }
+    for (i = 0; i < COUNT(near); i++) {
+        memcpy(copy, words, sizeof copy);
+        (void)expect_event(copy, 1, (uint16_t)(words[8] + (uint64_t)(int64_t)near[i]));
+    }
+}
+
+static PaperSetup any_setup(void) {
+    static const uint8_t histories[] = {2, 4, 64, 3, 63, 33};
+    static const uint32_t timeouts[][2] = {{1, 1}, {2, 1000}, {100, 100}, {3600000, 10000}, {3, 333}, {3600000, 9999}};
+    static const uint32_t differences[] = {0, 1, 5, 0x80000000, 0xFFFFFFFF};
+    const size_t timeout = roll() % COUNT(timeouts);
+    PaperSetup s;
+    s.rule = roll() % 2;
+    s.taken = roll() % 2;
+    s.history = histories[roll() % COUNT(histories)];
+    s.ms = timeouts[timeout][0];
+    s.rate = timeouts[timeout][1];
+    s.paths = 2 + roll() % 7;
+    s.difference = differences[roll() % COUNT(differences)];
+    return s;
+}
+
+/* Long runs from a fresh state: mostly packets near the newest number, now and then silence until the timeout, or a leap. */
+static void runs(void) {
+    static const uint8_t answers_met[] = {AHZ_DONE, AHZ_PASS, AHZ_DISCARD, AHZ_TICK, AHZ_RESET, AHZ_LATENT_OK, AHZ_LATENT_ERROR};
+    unsigned run, i, answered[256] = {0};
+    for (run = 0; run < 60; run++) {
+        PaperState fresh = paper_fresh(any_setup());
+        uint64_t words[AHZ_S_WORDS];
+        fresh.setup.rule = run % 2;
+        fresh.setup.taken = run / 2 % 2;
+        paper_words(&fresh, words);
+        for (i = 0; i < 400; i++) {
+            const unsigned what = (unsigned)(roll() % 64), window = 2 * (unsigned)words[3] + 3;
+            const uint64_t near = words[8] + roll() % window - words[3] - 1;
+            if (what < 12) answered[expect_event(words, 1, (uint16_t)(words[8] + 1))]++;
+            else if (what < 40) answered[expect_event(words, 1, (uint16_t)near)]++;
+            else if (what < 42) answered[expect_event(words, 1, (uint16_t)roll())]++;
+            else if (what < 46) answered[expect_event(words, 2, 0)]++;
+            else if (what < 58) answered[expect_event(words, 3, 0)]++;
+            else if (what < 59) answered[expect_event(words, 4, 0)]++;
+            else if (what < 60) answered[expect_event(words, 5, 0)]++;
+            else answered[expect_event(words, 6, 0)]++;
+        }
+    }
+    for (i = 0; i < COUNT(answers_met); i++) EXPECT(answered[answers_met[i]] > 100);
+    EXPECT(answered[AHZ_R_STATE] == 0);
+}
+
+static uint64_t any_counter(void) {
+    static const uint64_t counters[] = {0, 1, UINT64_MAX, UINT64_MAX - 1, UINT32_MAX, UINT64_C(1) << 32, UINT64_C(1) << 63};
+    return roll() % 2 == 0 ? counters[roll() % COUNT(counters)] : roll();
+}
+
+/* A sound state of any kind, which no run need lead to. */
+static PaperState any_state(void) {
+    PaperState state = paper_fresh(any_setup());
+    const uint64_t full = paper_ticks(state.setup.ms, state.setup.rate);
+    uint64_t apart;
+    unsigned k;
+    state.left = roll() % 3 == 0 ? full : roll() % (full + 1);
+    if (roll() % 8 != 0) {
+        state.take_any = 0;
+        state.newest = roll() % 4 == 0 ? (65533 + roll() % 6) % 65536 : roll() % 65536;
+        if (state.left == 0) state.left = 1;
+        for (k = 0; k < state.setup.history && state.setup.rule == 0; k++) state.marks[k] = k == 0 || roll() % 3 > 0;
+    }
+    for (k = 12; k < 20; k++) *paper_field(&state, k) = any_counter();
+    /* The base: about as far from the figure as the difference is, on both sides, and as far away as can be. */
+    apart = state.setup.difference + roll() % 3 - 1;
+    if (roll() % 8 == 0) apart = (UINT64_C(1) << 63) + roll() % 3 - 1;
+    state.base = paper_figure(&state) + (roll() % 2 == 0 ? apart : 0 - apart);
+    return state;
+}
+
+static void single_events(void) {
+    unsigned n, answers[2] = {0, 0};
+    for (n = 0; n < 600; n++) {
+        PaperState state = any_state();
+        uint64_t words[AHZ_S_WORDS], same[AHZ_S_WORDS];
+        paper_words(&state, words);
+        memcpy(same, words, sizeof same);
+        expect_each(words);
+        answers[expect_event(same, 6, 0) == AHZ_LATENT_ERROR]++;
+    }
+    EXPECT(answers[0] > 50 && answers[1] > 50);
+    for (n = 0; n < 200; n++) { /* all eight counters at the last number before they wrap */
+        PaperState state = any_state();
+        uint64_t words[AHZ_S_WORDS];
+        unsigned k;
+        for (k = 12; k < 20; k++) *paper_field(&state, k) = UINT64_MAX;
+        paper_words(&state, words);
+        expect_each(words);
+    }
+}
+
+/* Words of sound states, one of them changed to a number about the edges of its range or beyond its field. */
+static void unsound(void) {
+    static const uint64_t numbers[] = {0, 1, 2, 3, 4, 7, 8, 9, 63, 64, 65, 255, 256, 257, 258, 9999, 10000, 10001, 65534, 65535, 65536,
+                                       3600000, 3600001, UINT32_MAX, UINT64_C(1) << 32, (UINT64_C(1) << 32) + 1, UINT64_C(1) << 63,
+                                       UINT64_MAX, 0x41485A00, 0x41485A02, 0x015A4841};
+    unsigned n, word, refused = 0;
+    size_t i;
+    for (n = 0; n < 12; n++) {
+        PaperState state = any_state(), changed;
+        uint64_t words[AHZ_S_WORDS], other[AHZ_S_WORDS];
+        state.setup.rule = n % 2;
+        state.take_any = n / 2 % 3 == 0;
+        if (state.take_any == 1 || state.setup.rule == 1) memset(state.marks, 0, sizeof state.marks);
+        if (state.take_any == 1) state.newest = 65535;
+        if (state.take_any == 0 && state.left == 0) state.left = 1;
+        if (state.take_any == 0 && state.setup.rule == 0) state.marks[0] = 1;
+        paper_words(&state, words);
+        EXPECT(paper_state(words, &changed) == 1);
+        for (word = 0; word <= 11; word++) {
+            const uint64_t full = paper_ticks(state.setup.ms, state.setup.rate), was = words[word];
+            const uint64_t own[] = {was ^ 1, was + 256, was + 65536, was + (UINT64_C(1) << 32), was | UINT64_C(1) << 63, full, full + 1,
+                                    was | UINT64_C(1) << state.setup.history % 64, was | UINT64_C(1) << (state.setup.history - 1)};
+            for (i = 0; i < COUNT(numbers) + COUNT(own); i++) {
+                memcpy(other, words, sizeof other);
+                other[word] = i < COUNT(numbers) ? numbers[i] : own[i - COUNT(numbers)];
+                refused += paper_state(other, &changed) == 0;
+                expect_each(other);
+            }
+        }
+    }
+    EXPECT(refused > 1000);
+}
+
+/* Fewer words than a state has are none, whatever they hold. */
+static void shorter(void) {
+    PaperState state = any_state();
+    uint64_t words[AHZ_S_WORDS];
+    size_t count;
+    uint8_t kind;
+    paper_words(&state, words);
+    for (count = 0; count < AHZ_S_WORDS; count++) {
+        for (kind = 1; kind <= 6; kind++) {
+            EXPECT(event((uint64_t *)lend_aligned(&space, words, count * 8), count, kind, 7) == AHZ_R_STATE && kept_but(&space, 0));
+        }
+    }
+}
+
+/* The paper's edges, as it writes them: a rule, H, then numbers with their verdicts, order and rogue at the end. */
+static void edges(void) {
+    static const struct {
+        uint8_t rule;
+        uint16_t history, numbers[4];
+        uint8_t count;
+        char verdicts[5];
+        uint64_t order, rogue;
+    } cases[] = {
+        {0, 4, {10}, 1, "p", 0, 0},          {0, 4, {10, 13}, 2, "pp", 1, 0},          {0, 4, {10, 14}, 2, "pd", 0, 1},
+        {0, 4, {10, 13, 11}, 3, "ppp", 2, 0}, {0, 4, {10, 13, 10}, 3, "ppd", 1, 0},    {0, 4, {10, 13, 9}, 3, "ppd", 1, 1},
+        {0, 4, {65535, 0}, 2, "pp", 0, 0},   {0, 64, {0, 65473}, 2, "pp", 1, 0},       {0, 64, {0, 65472}, 2, "pd", 0, 1},
+        {0, 64, {0, 32768}, 2, "pd", 0, 1},  {1, 8, {5, 6, 5}, 3, "ppp", 1, 0},        {1, 8, {5, 5}, 2, "pd", 0, 0},
+    };
+    size_t i, k;
+    for (i = 0; i < COUNT(cases); i++) {
+        uint64_t words[AHZ_S_WORDS];
+        EXPECT(ahz_fresh(cases[i].rule, 0, cases[i].history, 100, 100, 2, 1, words, AHZ_S_WORDS) == AHZ_DONE);
+        for (k = 0; k < cases[i].count; k++) {
+            const int passes = cases[i].verdicts[k] == 'p';
+            EXPECT(ahz_numbered(words, AHZ_S_WORDS, cases[i].numbers[k]) == (passes ? AHZ_PASS : AHZ_DISCARD));
+        }
+        EXPECT(words[AHZ_S_ORDER] == cases[i].order && words[AHZ_S_ROGUE] == cases[i].rogue);
+    }
+}
+
+/* ---- What the typed forms read of a state, and of an answer ---- */
+
+static void typed(void) {
+    unsigned n;
+    for (n = 0; n < 200; n++) {
+        PaperState state = any_state();
+        ahz_state_t words;
+        ahz_setup_t setup;
+        ahz_counters_t counters;
+        uint16_t newest = 0x5A5A;
+        paper_words(&state, words.words);
+        setup = ahz_state_setup(&words);
+        counters = ahz_state_counters(&words);
+        EXPECT(setup.rule == state.setup.rule && setup.taken == state.setup.taken && setup.history == state.setup.history);
+        EXPECT(setup.timeout.ms == state.setup.ms && setup.rate.per_second == state.setup.rate);
+        EXPECT(setup.paths == state.setup.paths && setup.difference == state.setup.difference);
+        EXPECT(counters.passed == state.passed && counters.discarded == state.discarded && counters.order == state.order);
+        EXPECT(counters.rogue == state.rogue && counters.lost == state.lost && counters.tagless == state.tagless);
+        EXPECT(counters.resets == state.resets && counters.latent_resets == state.latent_resets);
+        EXPECT(ahz_state_ticks_left(&words).ticks == state.left && ahz_state_base(&words) == state.base);
+        EXPECT(ahz_state_marks(&words) == words.words[9]);
+        EXPECT(ahz_state_newest(&words, &newest) == (state.take_any == 0));
+        EXPECT(newest == (state.take_any == 0 ? state.newest : 0x5A5A));
+    }
+}
+
+static void answers(void) {
+    unsigned answer, other;
+    EXPECT(ahz_version() == AHZ_VERSION && ahz_version_fits() == 1);
+    for (answer = 0; answer < 256; answer++) EXPECT(ahz_is_refusal((uint8_t)answer) == (answer >= 1 && answer <= 99));
+    for (answer = 1; answer <= 27; answer++) {
+        EXPECT(strcmp(ahz_refusal_sentence((uint8_t)answer), "no refusal") != 0);
+        for (other = 1; other < answer; other++) {
+            EXPECT(strcmp(ahz_refusal_sentence((uint8_t)answer), ahz_refusal_sentence((uint8_t)other)) != 0);
+        }
+    }
+    EXPECT(strcmp(ahz_refusal_sentence(AHZ_DONE), "no refusal") == 0 && strcmp(ahz_refusal_sentence(28), "no refusal") == 0);
+    EXPECT(strcmp(ahz_refusal_sentence(AHZ_R_TAKEN), "taken flag not 0 or 1") == 0);
+}
+
+int main(void) {
+    static void (*const parts[])(void) = {edges, numbering, ticks, setups, runs, single_events, unsound, shorter, typed, answers};
+    return run_tests("tests/c/states.c", parts, COUNT(parts));
+}

@@ -1,0 +1,151 @@
+/* The calls on stream tables, each answer against document 01: entries of every kind, choice and VLAN, in every place and cut everywhere,
+ * tables of more than 256 entries, and lookups that differ from a match in one thing. */
+#include "check.h"
+#include "paper.h"
+
+static Space first, second, third;
+static uint8_t table[LONGEST_LENT];
+
+/* An entry's address is the frame's destination or source, with one octet changed by those bits. */
+static const uint8_t frame_head[] = {0xFE, 0xDC, 0xBA, 0x98, 0x76, 0x54, 0x02, 0x13, 0x24, 0x35, 0x46, 0x57};
+
+static void put_entry(size_t place, unsigned kind, unsigned choice, unsigned vlan, unsigned handle) {
+    uint8_t *entry = table + 12 * place;
+    entry[0] = (uint8_t)kind;
+    memcpy(entry + 1, kind == 2 ? frame_head + 6 : frame_head, 6);
+    entry[7] = (uint8_t)choice;
+    entry[8] = (uint8_t)(vlan >> 8);
+    entry[9] = (uint8_t)(vlan & 255);
+    entry[10] = (uint8_t)(handle >> 8);
+    entry[11] = (uint8_t)(handle & 255);
+}
+
+static void expect_lookup(size_t table_octets, const uint8_t *frame, size_t octets) {
+    const uint8_t *lent_table = lend(&first, table, table_octets), *lent_frame = lend(&second, frame, octets);
+    uint16_t handle = 0, *found = (uint16_t *)lend_aligned(&third, NULL, sizeof handle);
+    const uint8_t answer = paper_lookup(table, table_octets, frame, octets, &handle);
+    EXPECT(ahz_lookup(lent_table, table_octets, lent_frame, octets, found) == answer);
+    EXPECT(kept_but(&first, 0) && kept_but(&second, 0) && holds(&third, &handle, answer == AHZ_STREAM ? sizeof handle : 0));
+}
+
+/* The table alone, and before a frame that is good and one that is not. */
+static void expect_table(size_t octets) {
+    static uint8_t frame[20];
+    const uint8_t *lent = lend(&first, table, octets);
+    EXPECT(ahz_check_table(lent, octets) == paper_check_table(table, octets));
+    EXPECT(kept_but(&first, 0));
+    memcpy(frame, frame_head, sizeof frame_head);
+    expect_lookup(octets, frame, sizeof frame);
+    expect_lookup(octets, frame, 13);
+}
+
+static void entries(void) {
+    static const uint8_t kinds[] = {0, 1, 2, 3, 0x81, 0xFF}, choices[] = {0, 1, 2, 3, 4, 0x81, 0xFF};
+    static const uint16_t vlans[] = {0, 1, 255, 256, 4094, 4095, 4096, 0x8001, 65535};
+    size_t place, kind, choice, vlan, octets;
+    for (place = 0; place < 3; place++) {
+        for (octets = 0; octets < place; octets++) put_entry(octets, 1 + (unsigned)octets % 2, 3, 7, 1);
+        put_entry(place + 1, 1, 3, 0, 0xABCD);
+        for (kind = 0; kind < COUNT(kinds); kind++) {
+            for (choice = 0; choice < COUNT(choices); choice++) {
+                for (vlan = 0; vlan < COUNT(vlans); vlan++) {
+                    put_entry(place, kinds[kind], choices[choice], vlans[vlan], 0x1234);
+                    expect_table(12 * place + 11);
+                    expect_table(12 * place + 12);
+                    expect_table(12 * place + 24);
+                    expect_table(12 * place + 25);
+                }
+            }
+            for (octets = 0; octets <= 24; octets++) expect_table(12 * place + octets);
+        }
+    }
+}
+
+/* Full, overfull, and with one bad entry in it: the first that is wrong is the answer, be it the 257th. */
+static void long_tables(void) {
+    static const size_t places[] = {0, 1, 2, 100, 254, 255, 256, 257, 400};
+    static const size_t lengths[] = {12 * 255, 12 * 256 - 1, 12 * 256, 12 * 256 + 1, 12 * 256 + 11, 12 * 257, 12 * 258, 12 * 500,
+                                     65536, 65536 + 12, 65536 + 12 * 256};
+    size_t place, length, bad, i;
+    for (place = 0; place < COUNT(places); place++) {
+        for (bad = 0; bad < 4; bad++) {
+            for (i = 0; 12 * (i + 1) <= sizeof table; i++) put_entry(i, 1 + (unsigned)(i % 2), 3, 7, (unsigned)i);
+            put_entry(255, 2, 3, 0, 0xAB77);
+            if (bad == 1) table[12 * places[place]] = 9;
+            if (bad == 2) table[12 * places[place] + 7] = 4;
+            if (bad == 3) table[12 * places[place] + 8] = 0x10;
+            for (length = 0; length < COUNT(lengths); length++) expect_table(lengths[length]);
+        }
+    }
+}
+
+/* Each entry before one that matches every frame to the same destination, whose handle says that the first did not match. */
+static void lookups(void) {
+    static const struct {
+        uint8_t octets[12];
+        size_t count;
+    } tags[] = {{{0}, 0}, {{0x81, 0, 0, 0}, 4}, {{0x81, 0, 0xF0, 0}, 4}, {{0x81, 0, 0x00, 0x01}, 4}, {{0x81, 0, 0x31, 0x05}, 4},
+                {{0x81, 0, 0x0F, 0xFE}, 4}, {{0xF1, 0xC1, 0, 0, 1, 5}, 6}, {{0x81, 0, 0, 5, 0xF1, 0xC1, 0, 0, 1, 2}, 10},
+                {{0x81, 0, 0, 0, 0xF1, 0xC1, 0, 0, 1, 2}, 10}, {{0x88, 0xA8, 0x01, 0x05}, 4}, {{0x81, 0, 0x0F, 0xFF}, 4}};
+    static const uint16_t vlans[] = {0, 1, 4, 5, 0x0100, 0x0105, 0x0104, 0x0205, 4094}, handles[] = {0, 1, 0x0100, 0xFFFF};
+    static const uint8_t changes[] = {0, 0x01, 0x80};
+    size_t tag, vlan, turn = 0, octet, change;
+    unsigned kind, choice;
+    for (tag = 0; tag < COUNT(tags); tag++) {
+        uint8_t frame[40];
+        const size_t octets = 12 + tags[tag].count + 6;
+        memset(frame, 0x11, sizeof frame);
+        memcpy(frame, frame_head, 12);
+        memcpy(frame + 12, tags[tag].octets, tags[tag].count);
+        for (kind = 1; kind <= 2; kind++) {
+            for (choice = 1; choice <= 3; choice++) {
+                for (vlan = 0; vlan < COUNT(vlans); vlan++) {
+                    put_entry(0, kind, choice, vlans[vlan], handles[turn++ % COUNT(handles)]);
+                    put_entry(1, kind, choice, vlans[vlan], 0x7777);
+                    put_entry(2, 1, 3, 0, 0xABCD);
+                    expect_lookup(36, frame, octets);
+                    expect_lookup(12, frame, octets);
+                    expect_lookup(36, frame, 12 + tags[tag].count + 1);
+                }
+                for (octet = 0; octet < 6; octet++) {
+                    for (change = 0; change < COUNT(changes); change++) {
+                        put_entry(0, kind, choice, 0, handles[turn++ % COUNT(handles)]);
+                        table[1 + octet] ^= changes[change];
+                        expect_lookup(12, frame, octets);
+                        table[0] = (uint8_t)(3 - kind); /* the other address */
+                        expect_lookup(12, frame, octets);
+                    }
+                }
+            }
+        }
+        expect_lookup(0, frame, octets);
+    }
+    expect_lookup(0, table, 0);
+    put_entry(0, 1, 3, 0, 1);
+    expect_lookup(12, table, 0);
+    expect_lookup(11, table, 0);
+}
+
+/* Tables of a few entries in which several match, and which one is first decides. */
+static void first_of_several(void) {
+    static const uint8_t vlans[] = {0, 0, 5, 6};
+    unsigned n, i;
+    for (n = 0; n < 3000; n++) {
+        const size_t count = 1 + roll() % 6;
+        uint8_t frame[20];
+        memset(frame, 0, sizeof frame);
+        memcpy(frame, frame_head, 12);
+        if (roll() % 2 == 0) frame[12] = 0x81;
+        frame[15] = (uint8_t)(roll() % 7);
+        for (i = 0; i < count; i++) {
+            put_entry(i, 1 + (unsigned)(roll() % 2), 1 + (unsigned)(roll() % 3), vlans[roll() % 4], (unsigned)(roll() % 65536));
+            if (roll() % 3 == 0) table[12 * i + 1 + roll() % 6] ^= 1;
+        }
+        expect_lookup(12 * count, frame, sizeof frame);
+    }
+}
+
+int main(void) {
+    static void (*const parts[])(void) = {entries, long_tables, lookups, first_of_several};
+    return run_tests("tests/c/tables.c", parts, COUNT(parts));
+}

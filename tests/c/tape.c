@@ -1,0 +1,168 @@
+/* The call for a bench tape: the whole output of each tape against document 01, in a buffer for every tape, in one that just holds it, and
+ * in none that is shorter. */
+#include "check.h"
+#include "paper.h"
+
+static Space first, second, third;
+static uint8_t tape[LONGEST_LENT];
+static char lines[AHZ_TAPE_OUTPUT + 1];
+static size_t lines_octets; /* of the last tape's output */
+
+static void expect_output(size_t octets, size_t room) {
+    const uint8_t answer = room < lines_octets ? AHZ_R_OUTPUT_SHORT : AHZ_DONE;
+    const uint8_t *lent = lend(&first, tape, octets);
+    uint8_t *out = lend(&second, NULL, room);
+    size_t *length = (size_t *)lend_aligned(&third, NULL, sizeof lines_octets);
+    EXPECT(ahz_tape(lent, octets, out, room, length) == answer);
+    EXPECT(kept_but(&first, 0) && holds(&second, lines, answer == AHZ_DONE ? lines_octets : 0));
+    EXPECT(holds(&third, &lines_octets, answer == AHZ_DONE ? sizeof lines_octets : 0));
+}
+
+static void expect_tape(size_t octets) {
+    lines_octets = paper_tape(tape, octets, lines);
+    expect_output(octets, AHZ_TAPE_OUTPUT);
+    expect_output(octets, lines_octets);
+    expect_output(octets, lines_octets + 1);
+    expect_output(octets, lines_octets - 1);
+    expect_output(octets, 0);
+}
+
+static int expected_is(const char *expected) {
+    return strcmp(lines, expected) == 0;
+}
+
+#define WORKED 0x0F, 0, 0, 0, 4, 0, 0, 0, 100, 0, 100, 2, 0, 0, 0, 1
+#define ONE_TICK 0x0F, 1, 1, 0, 2, 0, 0, 0, 1, 0, 1, 8, 0, 0, 0, 0
+
+/* Tapes with their outputs written out: the paper's own, every line there is, and each fault. */
+static void written(void) {
+    static const struct {
+        uint8_t octets[34];
+        size_t count;
+        const char *lines;
+    } tapes[] = {
+        {{WORKED, 1, 0, 10, 1, 0, 10, 1, 0, 12, 1, 0, 11, 1, 0, 20, 6}, 32,
+         "ok\npass\ndiscard\npass\npass\ndiscard\nlatent ok\n"
+         "passed=3 discarded=2 order=2 rogue=1 lost=2 tagless=0 resets=0 latent-resets=0\n"},
+        {{ONE_TICK, 2, 3, 3, 1, 1, 2, 1, 1, 2, 6, 5, 6, 4}, 29,
+         "ok\npass\nreset\ntick\npass\ndiscard\nlatent error\nlatent reset\nlatent ok\nreset\n"
+         "passed=2 discarded=1 order=0 rogue=0 lost=0 tagless=1 resets=2 latent-resets=1\n"},
+        {{WORKED}, 16, "ok\npassed=0 discarded=0 order=0 rogue=0 lost=0 tagless=0 resets=0 latent-resets=0\n"},
+        {{0}, 0, "fault 25\n"},
+        {{3}, 1, "fault 25\n"},
+        {{1, 0, 10}, 3, "fault 25\n"},
+        {{1, 0}, 2, "fault 24\n"},
+        {{0x0F}, 1, "fault 24\n"},
+        {{WORKED}, 15, "fault 24\n"},
+        {{0}, 1, "fault 23\n"},
+        {{7}, 1, "fault 23\n"},
+        {{0x0E}, 1, "fault 23\n"},
+        {{0xFF}, 1, "fault 23\n"},
+        {{WORKED, 7}, 17, "ok\nfault 23\n"},
+        {{WORKED, 1, 0}, 18, "ok\nfault 24\n"},
+        {{WORKED, 1}, 17, "ok\nfault 24\n"},
+        {{WORKED, 0x0F, 0, 0}, 19, "ok\nfault 24\n"},
+        {{WORKED, 3, WORKED}, 33, "ok\ntick\nfault 25\n"},
+        {{WORKED, 0x0F, 9, 9, 0, 0, 0, 0, 0, 0, 0, 0, 0, 0, 0, 0, 0}, 32, "ok\nfault 25\n"},
+        {{0x0F, 2, 2, 0, 1, 0, 0, 0, 0, 0, 0, 1, 0, 0, 0, 0}, 16, "fault 15\n"},
+        {{0x0F, 1, 2, 0, 1, 0, 0, 0, 0, 0, 0, 1, 0, 0, 0, 0}, 16, "fault 27\n"},
+        {{0x0F, 1, 1, 0, 65, 0, 0, 0, 0, 0, 0, 1, 0, 0, 0, 0}, 16, "fault 16\n"},
+        {{0x0F, 1, 1, 0, 64, 0, 0x36, 0xEE, 0x81, 0, 0, 1, 0, 0, 0, 0}, 16, "fault 17\n"},
+        {{0x0F, 1, 1, 0, 64, 0, 0x36, 0xEE, 0x80, 0x27, 0x11, 1, 0, 0, 0, 0}, 16, "fault 18\n"},
+        {{0x0F, 1, 1, 0, 64, 0, 0x36, 0xEE, 0x80, 0x27, 0x10, 9, 0, 0, 0, 0}, 16, "fault 19\n"},
+        {{0x0F, 1, 1, 0, 64, 0, 0x36, 0xEE, 0x80, 0x27, 0x10, 8, 0xFF, 0xFF, 0xFF, 0xFF}, 16,
+         "ok\npassed=0 discarded=0 order=0 rogue=0 lost=0 tagless=0 resets=0 latent-resets=0\n"},
+    };
+    size_t i, octets;
+    for (i = 0; i < COUNT(tapes); i++) {
+        memcpy(tape, tapes[i].octets, sizeof tapes[i].octets);
+        for (octets = 0; octets < tapes[i].count; octets++) expect_tape(octets);
+        expect_tape(tapes[i].count);
+        EXPECT(expected_is(tapes[i].lines));
+    }
+}
+
+/* Setups about the edges of each number, each octet of them in its place. */
+static void setups(void) {
+    static const uint8_t good[] = {WORKED};
+    static const uint8_t octets[] = {0, 1, 2, 3, 8, 9, 64, 65, 0x10, 0x11, 0x27, 0x28, 0x36, 0x37, 0x80, 0x81, 0xEE, 0xEF, 0xFF};
+    size_t place, i;
+    for (place = 1; place < 16; place++) {
+        for (i = 0; i < COUNT(octets); i++) {
+            memcpy(tape, good, sizeof good);
+            tape[place] = octets[i];
+            memcpy(tape + 16, "\1\0\12\1\0\12\1\0\15\6\2\3\3\1\0\14\6", 17);
+            expect_tape(16 + 17);
+        }
+    }
+}
+
+static uint8_t below(unsigned end) {
+    return (uint8_t)(roll() % end);
+}
+
+/* Events in any order, of any setup, and now and then an octet that is wrong. */
+static void any_events(void) {
+    static const uint8_t worked[] = {WORKED}, histories[] = {2, 4, 64};
+    unsigned n;
+    size_t at;
+    for (n = 0; n < 150; n++) {
+        const size_t octets = 100 + roll() % 900;
+        uint64_t number = roll();
+        memcpy(tape, worked, sizeof worked);
+        tape[1] = below(2);
+        tape[2] = below(2);
+        tape[4] = histories[below(3)];
+        tape[8] = (uint8_t)(1 + below(9)); /* ms, and a rate of 356: from one tick to four */
+        tape[9] = 1;
+        tape[11] = (uint8_t)(2 + below(7));
+        tape[15] = below(5);
+        for (at = sizeof worked; at + 3 < octets;) {
+            tape[at] = (uint8_t)(below(4) < 3 ? 1 : 2 + below(5));
+            if (tape[at++] != 1) continue;
+            number += roll() % 7 - 2;
+            tape[at++] = (uint8_t)(number >> 8);
+            tape[at++] = (uint8_t)number;
+        }
+        expect_tape(at);
+        if (n % 3 == 0) {
+            tape[16 + roll() % (at - 16)] = (uint8_t)(7 + below(16));
+            expect_tape(at);
+        }
+    }
+}
+
+/* The longest tapes: of one event again and again, so that each counter has its many digits, and the tapes that are too long. */
+static void longest(void) {
+    static const uint8_t good[][16] = {{WORKED}, {ONE_TICK}};
+    static const size_t too_long[] = {4097, 4098, 65536, 65536 + 16, 65536 + 4096};
+    uint8_t kind;
+    size_t i, at;
+    for (i = 0; i < COUNT(good); i++) {
+        for (kind = 1; kind <= 6; kind++) {
+            for (at = 0; at < sizeof tape; at++) tape[at] = kind == 1 ? (uint8_t)(at % 3 == 1 ? 1 : at % 3 == 2 ? at / 768 : at / 3) : kind;
+            memcpy(tape, good[i], 16);
+            expect_tape(4096);
+            expect_tape(4095);
+        }
+        for (at = 16; at + 1 < sizeof tape; at += 2) { /* packets that pass, and ticks: a reset after each under the second setup */
+            tape[at] = 2;
+            tape[at + 1] = 3;
+        }
+        expect_tape(4096);
+        for (at = 0; at < COUNT(too_long); at++) {
+            expect_tape(too_long[at]);
+            EXPECT(expected_is("fault 26\n"));
+        }
+    }
+    memset(tape, 0, sizeof tape);
+    expect_tape(4096);
+    EXPECT(expected_is("fault 23\n"));
+    expect_tape(4097);
+    EXPECT(expected_is("fault 26\n"));
+}
+
+int main(void) {
+    static void (*const parts[])(void) = {written, setups, any_events, longest};
+    return run_tests("tests/c/tape.c", parts, COUNT(parts));
+}
