@@ -3,3 +3,4 @@ pub mod Reach
 pub mod Moves
 pub mod Meaning
 pub mod Unique
+pub mod AtOnce

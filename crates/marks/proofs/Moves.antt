@@ -1,26 +1,22 @@
--- Mark by mark, what one move does, and what setting one mark does; and how the definitions of d moves unfold. For every history length
--- that there is. Assumes nothing.
-use Prim.Native.Nat.{ℕ, zero, suc, _+_, _-_, _*_, _%_, _^_, _≤_, _<_}
+-- Mark by mark, what one move does, and what setting one mark does. Assumes nothing.
+use Prim.Native.Nat.{ℕ, suc, _*_, _%_, _^_, _<_}
 use native.Mathlib.Nat.{mod-lt, zero-div}
 use native.Mathlib.Omega.{arith}
-use mathlib.Core.Path.{_≡_, refl, ap}
-use mathlib.Core.Bool.{true, false, cond}
+use mathlib.Core.Path.{_≡_, refl, ap, _∙_}
+use mathlib.Core.Bool.{true, cond}
 use lib.Dec.{eqb}
 use lib.Pow.{pow-pos}
 use borrow.Author.Tests.{lt-ltb, ltb-true, eqb-true, eqb-false}
 use Rattle.octets.proofs.Bools.{by-cases, either}
 use Rattle.marks.specs.declared.Marks.{Marks}
-use Rattle.marks.specs.Window.{most, number, mark, none, clearFrom, set, moved, lostBy, slid, lostIn}
+use Rattle.marks.specs.Window.{most, number, mark, none, clearFrom, set, reach, moved}
 use Rattle.marks.proofs.Digits.{digit, digit-below-2, digit-set, set-below, digit-moved-zero, digit-moved-suc}
-use Rattle.marks.proofs.Reach.{reach-is}
+use Rattle.marks.proofs.Reach.{reach-low, number-cut}
 
 -- a mark is set or clear
 pub mark-below-2 : (k : ℕ) (marks : Marks) → mark k marks < 2
 unfolding mark digit
 mark-below-2 k marks = digit-below-2 k (number marks)
-
-pub not-set : (k : ℕ) (marks : Marks) → eqb (mark k marks) 1 ≡ false → mark k marks ≡ 0
-not-set k marks e = omega (arith, eqb-false (mark k marks) 1 e, mark-below-2 k marks)
 
 -- no mark
 pub none-clear : (k : ℕ) → mark k none ≡ 0
@@ -52,32 +48,16 @@ module _ (k : ℕ) (marks : Marks) (there : k < most) where
       (lt-ltb _ _ (set-below h k (number marks) below (ltb-true (number marks) (2 ^ h) fits) (eqb-true _ _ clear))))
       (λ set-already. rw (lt-ltb k most there, set-already) fits)
 
--- one move in a history that there can be
-module _ (h : ℕ) (low : 1 ≤ h) (high : h ≤ most) (marks : Marks) where
+-- one move, whatever the history
+module _ (h : ℕ) (marks : Marks) where
+  pub mark-moved-suc : (k : ℕ) → suc k < reach h → mark (suc k) (moved h marks) ≡ mark k marks
+  unfolding mark moved digit
+  mark-moved-suc k kh = ap (digit (suc k)) (number-cut h (number marks * 2)) ∙ digit-moved-suc (reach h) k (number marks) kh
+
   pub mark-moved-zero : mark 0 (moved h marks) ≡ 0
   unfolding mark moved digit
-  mark-moved-zero = rw (reach-is h low high) (digit-moved-zero h (number marks) low)
+  mark-moved-zero = ap (digit 0) (number-cut h (number marks * 2)) ∙ digit-moved-zero (reach h) (number marks) (reach-low h)
 
-  pub mark-moved-suc : (k : ℕ) → suc k < h → mark (suc k) (moved h marks) ≡ mark k marks
-  unfolding mark moved digit
-  mark-moved-suc k kh = rw (reach-is h low high) (digit-moved-suc h k (number marks) kh)
-
-  pub clear-moved : clearFrom h (moved h marks) ≡ true
+  pub clear-moved : clearFrom (reach h) (moved h marks) ≡ true
   unfolding clearFrom moved
-  clear-moved = rw (reach-is h low high) (lt-ltb _ _ (mod-lt (number marks * 2) (pow-pos h)))
-
-  -- the mark that leaves is the last
-  pub lost-by : lostBy h marks ≡ 1 - mark (h - 1) marks
-  unfolding lostBy
-  lost-by = rw (reach-is h low high)
-
--- d moves are one, and then those that are left
-pub slid-step : (h d : ℕ) (marks : Marks) → 1 ≤ d → slid h d marks ≡ slid h (d - 1) (moved h marks)
-unfolding slid
-slid-step h zero marks p = absurd (omega arith)
-slid-step h (suc d) marks p = let e : suc d - 1 ≡ d = omega arith in rw e
-
-pub lostIn-step : (h d : ℕ) (marks : Marks) → 1 ≤ d → lostIn h d marks ≡ lostBy h marks + lostIn h (d - 1) (moved h marks)
-unfolding lostIn
-lostIn-step h zero marks p = absurd (omega arith)
-lostIn-step h (suc d) marks p = let e : suc d - 1 ≡ d = omega arith in rw e
+  clear-moved = rw (number-cut h (number marks * 2)) (lt-ltb _ _ (mod-lt (number marks * 2) (pow-pos (reach h))))

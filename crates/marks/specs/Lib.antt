@@ -1,2 +1,3 @@
 pub mod Window
 pub mod Meaning
+pub mod AtOnce

@@ -1,59 +1,55 @@
--- `marks::slide` meets its promise. Assumes nothing.
-use Prim.Native.Nat.{_+_, _≤_}
+-- `marks::slide` meets its promise: its parts are those of the claim that a slide can be made in one go. Assumes nothing.
+use Prim.Native.Nat.{_+_}
 use native.Mathlib.Omega.{arith}
 use mathlib.Core.Path.{_≡_, sym, _∙_}
 use borrow.Author.Needs.{needs}
-use Rattle.marks.specs.Window.{lostBy, slid, lostIn}
-use Rattle.marks.proofs.Moves.{slid-step, lostIn-step}
+use Rattle.marks.specs.Window.{slid, lostIn}
+use Rattle.marks.specs.AtOnce.{OneGo}
+use Rattle.marks.proofs.AtOnce.{slides-at-once}
+use Rattle.marks.proofs.Reach.{reach-low, reach-high}
 use Rattle.marks.proofs.window.slide.Statement.{statement}
 use Rattle.marks.proofs.window.slide.Tie as tie
 
--- what the moves that are left make of the marks and the count is what all of them make of the first
-abbrev Inv-loop : tie.InvT-loop
-Inv-loop history places marks lost₀ left₀ moving lost left =
-    (slid history left moving ≡ slid history places marks)
-    × (lost + lostIn history left moving ≡ lostIn history places marks)
-    × (lost + left ≤ places)
-
--- the measure: the moves that are left
-abbrev μ-loop : tie.MeasureT-loop
-μ-loop history places marks lost₀ left₀ moving lost left = left
-
-loop-holds : tie.Need-loop-holds Inv-loop μ-loop
-loop-holds c = search needs
-
--- the move that is counted loses at most 1
-add-lost : tie.Need-add-lost Inv-loop μ-loop
-unfolding lostBy
-add-lost c = omega arith
-
-sub-left : tie.Need-sub-left Inv-loop μ-loop
-sub-left c = search needs
-
-loop-less : tie.Need-loop-less Inv-loop μ-loop
-loop-less c = search needs
-
-loop-again : tie.Need-loop-again Inv-loop μ-loop
-unfolding lostBy
-loop-again c =
-    let at-loop = c .before .before .before in
-    let h = at-loop .before .args .history in
-    let at = at-loop .loop in
-    let p : 1 ≤ at .left = omega arith in (
-      rw (c .move-one .ensures) (sym (slid-step h (at .left) (at .moving) p) ∙ at .inv .0),
-      rw (c .move-one .ensures) (omega (arith, lostIn-step h (at .left) (at .moving) p)),
-      omega arith,
-    )
-
--- no move is left
-returns : tie.Need-returns Inv-loop μ-loop
+-- no move
+returns : tie.Need-returns
 unfolding slid lostIn
-returns c =
-    let at = c .before .loop in
-    let none : at .left ≡ 0 = omega arith in
-    record { moves = rw none at (at .inv .0); loses = omega (arith, rw none at (at .inv .1)) }
+returns c = search needs
+
+sub-ones-among : tie.Need-sub-ones-among
+sub-ones-among c = search needs
+
+ones-among-requires : tie.Need-ones-among-requires
+ones-among-requires c κs = let h = c .before .before .before .args .history in omega (arith, reach-low h, reach-high h)
+
+-- the law, at these marks
+at-once : (c : tie.After-ones-among)
+    → let a = c .before .before .before .before .args in OneGo (a .history) (a .places) (a .marks)
+at-once c = let a = c .before .before .before .before .args in slides-at-once (a .history) (a .places) (a .marks) (omega arith)
+
+-- of the marks that left those are lost that are not counted
+lost-are : (c : tie.After-ones-among)
+    → let a = c .before .before .before .before .args in lostIn (a .history) (a .places) (a .marks) + c .ones-among .result ≡ a .places
+lost-are c =
+    rw (c .ones-among .ensures, c .before .count-leaving .ensures, c .before .before .reach-of .ensures) (at-once c .loses)
+
+sub-lost : tie.Need-sub-lost
+sub-lost c = omega (arith, lost-are c)
+
+cast-lost : tie.Need-cast-lost
+cast-lost c = search needs
+
+move-by-requires : tie.Need-move-by-requires
+move-by-requires c κs = let h = c .before .before .before .before .args .history in omega (arith, reach-low h, reach-high h)
+
+returns-2 : tie.Need-returns-2
+returns-2 c =
+    let at = c .before in
+    record {
+      moves = rw (at .before .before .reach-of .ensures) at (c .move-by .ensures) ∙ sym (at-once at .moves);
+      loses = omega (arith, lost-are at);
+    }
 
 pub slide-spec : {M : Type 1} → statement M
-slide-spec {M} =
+slide-spec =
     tie.close
-    (search (tie.spec {M = M} Inv-loop μ-loop, loop-holds, add-lost, sub-left, loop-less, loop-again, returns, needs))
+    (search (tie.spec, returns, sub-ones-among, ones-among-requires, sub-lost, cast-lost, move-by-requires, returns-2, needs))

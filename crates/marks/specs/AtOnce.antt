@@ -1,0 +1,29 @@
+-- What a slide comes to when all its places are moved in one go: `slid` and `lostIn` of Window are held to it by the claim `SlidesAtOnce`,
+-- which proofs/AtOnce proves. Assumes nothing.
+use Prim.Native.Nat.{ℕ, zero, suc, _+_, _-_, _*_, _%_, _^_, _≤_, min}
+use mathlib.Core.Path.{_≡_}
+use Rattle.marks.specs.declared.Marks.{Marks}
+use Rattle.marks.specs.Window.{most, number, marksOf, mark, reach, slid, lostIn}
+
+-- a row of n marks from k on: at least one, and none past the last that there is
+abbrev pub Row : ℕ → ℕ → Type 0
+Row k n = (1 ≤ n) × (k + n ≤ most)
+
+-- how many of the n marks from k on are set
+unfoldable pub onesAmong : ℕ → ℕ → Marks → ℕ
+onesAmong k zero marks = 0
+onesAmong k (suc n) marks = mark k marks + onesAmong (suc k) n marks
+
+-- the marks moved d places at once, and those at r and above cut off
+unfoldable pub movedBy : ℕ → ℕ → Marks → Marks
+movedBy r d marks = marksOf (number marks * 2 ^ d % 2 ^ r)
+
+-- "the marks move d places" in one go: they are cut off at the history, and of the d that leave, which are the last marks of the history
+-- and clear ones behind them, all are lost but those that were set
+pub record OneGo (h d : ℕ) (marks : Marks) : Type 0 where
+  pub moves : slid h d marks ≡ movedBy (reach h) d marks
+  pub loses : lostIn h d marks + onesAmong (reach h - min d (reach h)) (min d (reach h)) marks ≡ d
+
+-- so for every history length and every slide of at least one place. A slide of no places cuts nothing off
+abbrev pub SlidesAtOnce : Type 0
+SlidesAtOnce = (h d : ℕ) (marks : Marks) → 1 ≤ d → OneGo h d marks
