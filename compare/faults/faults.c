@@ -195,6 +195,37 @@ uint8_t ahz_fresh(uint8_t rule, uint8_t taken, uint16_t history, uint32_t millis
     return answer;
 }
 
+/* A packet that passed may have slid the window by d: the marks from h - d on left, and those that were clear are lost. Each fault is a
+ * mistake in the shifts, the mask or the count by which that can be done at once. */
+static void slide(uint64_t *state, const uint64_t *before, uint16_t number)
+{
+    const uint64_t d = (uint16_t)(number - before[AHZ_S_NEWEST]), h = before[AHZ_S_HISTORY];
+    const uint64_t marks = before[AHZ_S_MARKS], lost = before[AHZ_S_LOST];
+    uint64_t leaving;
+
+    if (before[AHZ_S_RULE] != AHZ_RULE_VECTOR || before[AHZ_S_TAKE_ANY] != 0 || d == 0 || d >= h)
+        return;
+    leaving = marks >> (h - d);
+    if (fault("ones-as-lost"))
+        state[AHZ_S_LOST] = lost + (uint64_t)__builtin_popcountll(leaving);
+    if (fault("ones-in-32-bits"))
+        state[AHZ_S_LOST] = lost + d - (uint64_t)__builtin_popcount((uint32_t)leaving);
+    if (fault("lost-stays-d"))
+        state[AHZ_S_LOST] = lost + d;
+    if (fault("mask-too-wide"))
+        state[AHZ_S_LOST] += !(marks >> (h - d - 1) & 1);
+    if (fault("mask-too-narrow"))
+        state[AHZ_S_LOST] -= !(leaving & 1);
+    if (fault("last-shift-off") && d == h - 1)
+        state[AHZ_S_LOST] = lost + d - (uint64_t)__builtin_popcountll(leaving >> 1);
+    if (fault("shift-by-d-less-1"))
+        state[AHZ_S_MARKS] = (marks << (d - 1) & UINT64_MAX >> (64 - h)) | 1;
+    if (fault("marks-not-cut"))
+        state[AHZ_S_MARKS] = marks << d | 1;
+    if (fault("mask-of-64-is-0") && h == 64)
+        state[AHZ_S_MARKS] = 1;
+}
+
 uint8_t ahz_numbered(uint64_t *state, size_t state_words, uint16_t number)
 {
     uint64_t before[AHZ_S_WORDS];
@@ -223,6 +254,7 @@ uint8_t ahz_numbered(uint64_t *state, size_t state_words, uint16_t number)
         state[AHZ_S_LEFT] = state[AHZ_S_MILLISECONDS] * state[AHZ_S_RATE] / 1000;
     if (fault("mark-forgotten") && state[AHZ_S_NEWEST] != number)
         state[AHZ_S_MARKS] = before[AHZ_S_MARKS];
+    slide(state, before, number);
     return answer;
 }
 

@@ -372,3 +372,32 @@ fn streams_without_a_gap() {
     }
     report("events in streams without a gap, every H", events);
 }
+
+/// The same slide again and again, by every d below every H, in one span for each H: marks that
+/// went through many slides. Behind each come none, some or all of the late packets that the window
+/// still takes.
+#[test]
+fn the_same_slide_in_sequence() {
+    let mut random = Random::new(SEED + 3);
+    let mut events = 0;
+    for history in 2..=64u16 {
+        let mut held = Held::fresh(random_setup(&mut random, VECTOR, history));
+        let mut newest = 65_530u16;
+        held.event(Event::Packet(Some(newest)), 1);
+        for (d, quarters) in (1..history).flat_map(|d| (0..=4).map(move |quarters| (d, quarters))) {
+            for _ in 0..4 {
+                newest = newest.wrapping_add(d);
+                held.event(Event::Packet(Some(newest)), 20_011);
+                for late in (1..history).filter(|_| random.below(4) < quarters) {
+                    held.event(Event::Packet(Some(newest.wrapping_sub(late))), 20_011);
+                }
+            }
+        }
+        held.model.closes(true);
+        let span = held.model.span.as_ref().expect("no reset");
+        let slid: i64 = (1..i64::from(history)).map(|d| 20 * d).sum();
+        assert_eq!((span.newest - span.first, held.model.counted.rogue), (slid, 0));
+        events += held.events;
+    }
+    report("events with the same slide in sequence, every H", events);
+}

@@ -21,6 +21,17 @@ const SETUP: Setup = Setup {
     difference: 1,
 };
 
+const FULL: Counters = Counters {
+    passed: u64::MAX,
+    discarded: u64::MAX,
+    order: u64::MAX,
+    rogue: u64::MAX,
+    lost: u64::MAX,
+    tagless: u64::MAX,
+    resets: u64::MAX,
+    latent_resets: u64::MAX,
+};
+
 fn packet(state: &State, number: Option<u16>) -> (u8, State) {
     event(state, Event::Packet(number))
 }
@@ -68,9 +79,19 @@ fn the_timer() {
     assert_eq!((state.newest, state.marks), (65_535, 0));
 }
 
-/// The marks as a row of places, moved as 01 and 002 clause 7.4.3.6 say: one at a time.
-fn moved(marks: u64, history: u16, d: u32) -> (u64, u64) {
-    let mut row: Vec<bool> = (0..history).map(|mark| marks >> mark & 1 == 1).collect();
+/// The marks as a row of places, the newest first. Mark 0, which is the newest, is set in every
+/// sound state.
+fn row(history: u16, mut set: impl FnMut(u16) -> bool) -> Vec<bool> {
+    (0..history).map(|mark| mark == 0 || set(mark)).collect()
+}
+
+fn word(row: &[bool]) -> u64 {
+    row.iter().rev().fold(0, |marks, &mark| marks << 1 | u64::from(mark))
+}
+
+/// The row moved as 01 and 002 clause 7.4.3.6 say, one place at a time; and how many clear marks
+/// left it.
+fn moved(mut row: Vec<bool>, d: u16) -> (Vec<bool>, u64) {
     let mut lost = 0;
     for _ in 0..d {
         let left = row.pop().expect("at least two marks");
@@ -78,80 +99,92 @@ fn moved(marks: u64, history: u16, d: u32) -> (u64, u64) {
         row.insert(0, false);
     }
     row[0] = true;
-    let marks = row.iter().rev().fold(0, |marks, &mark| marks << 1 | u64::from(mark));
-    (marks, lost)
+    (row, lost)
 }
 
-/// Every slide under every H against marks moved one by one; full windows too.
+/// Which marks are set beside mark 0, by the mark, H and d; the marks from H - d on leave. Mark 0 is
+/// set in every sound state, so "none" and "only the first" are one case; mark 1 stands for the next.
+type Extreme = (&'static str, fn(u16, u16, u16) -> bool);
+const EXTREMES: [Extreme; 10] = [
+    ("none, or only mark 0", |_, _, _| false),
+    ("all", |_, _, _| true),
+    ("only the last", |mark, h, _| mark == h - 1),
+    ("only mark 1", |mark, _, _| mark == 1),
+    ("all but the last", |mark, h, _| mark != h - 1),
+    ("all but mark 1", |mark, _, _| mark != 1),
+    ("only the lowest that leaves", |mark, h, d| mark == h - d),
+    ("only the highest that stays", |mark, h, d| mark == h - d - 1),
+    ("all that leave", |mark, h, d| mark >= h - d),
+    ("all that stay", |mark, h, d| mark < h - d),
+];
+
+/// Every d below every H, from extreme marks and from any, against marks moved one by one. Each
+/// goes once from any number with counters at 0, and once round 65,535 with counters that wrap.
 #[test]
 fn marks_move_one_place_at_a_time() {
     let mut random = Random::new(SEED);
-    let mut cases = 0;
-    for history in 2..=64u16 {
-        for d in 1..u32::from(history) {
-            for round in 0..12 {
-                let marks = match round {
-                    0 => 1,
-                    1 => u64::MAX,
-                    _ => random.next_u64() | 1,
-                } & (u64::MAX >> (64 - history));
-                let newest = random.number();
+    let (mut cases, mut wraps) = (0, 0);
+    for (history, d) in (2..=64).flat_map(|history| (1..history).map(move |d| (history, d))) {
+        let extremes =
+            EXTREMES.map(|(name, set)| (name, row(history, |mark| set(mark, history, d))));
+        let any = [(); 20].map(|()| ("any", row(history, |_| random.once_in(2))));
+        for (name, row) in extremes.into_iter().chain(any) {
+            let below_the_wrap = 65_535 - random.below(d.into()) as u16;
+            let near = Counters { lost: u64::MAX - random.below(d.into()), ..FULL };
+            let starts = [(random.number(), Counters::default()), (below_the_wrap, near)];
+            for (newest, counters) in starts {
                 let state = State {
                     setup: Setup { history, ..SETUP },
                     newest,
-                    marks,
+                    marks: word(&row),
                     take_any: false,
                     ticks_left: Ticks(3),
+                    counters,
                     ..State::fresh(SETUP).unwrap()
                 };
-                let number = newest.wrapping_add(d as u16);
-                let (later, lost) = moved(marks, history, d);
-                let order = u64::from(d != 1);
-                let counters = Counters { passed: 1, order, lost, ..Counters::default() };
+                let number = newest.wrapping_add(d);
+                let (row, lost) = moved(row.clone(), d);
                 let next = State {
                     newest: number,
-                    marks: later,
+                    marks: word(&row),
                     ticks_left: Ticks(10),
-                    counters,
+                    counters: Counters {
+                        passed: counters.passed.wrapping_add(1),
+                        order: counters.order.wrapping_add(u64::from(d != 1)),
+                        lost: counters.lost.wrapping_add(lost),
+                        ..counters
+                    },
                     ..state
                 };
-                assert_eq!(packet(&state, Some(number)), (AHZ_PASS, next));
+                assert_eq!(packet(&state, Some(number)), (AHZ_PASS, next), "H {history}, {name}");
+                wraps += u64::from(next.counters.lost < counters.lost && number < newest);
                 cases += 1;
             }
         }
     }
+    assert!(wraps > cases / 8, "numbers and lost were to wrap: {wraps}");
     report("slides", cases);
 }
 
 /// Every counter goes from 2^64 - 1 to 0.
 #[test]
 fn counters_wrap() {
-    let full = Counters {
-        passed: u64::MAX,
-        discarded: u64::MAX,
-        order: u64::MAX,
-        rogue: u64::MAX,
-        lost: u64::MAX,
-        tagless: u64::MAX,
-        resets: u64::MAX,
-        latent_resets: u64::MAX,
-    };
-    let state = State { counters: full, ..State::fresh(SETUP).unwrap() };
+    let state = State { counters: FULL, ..State::fresh(SETUP).unwrap() };
     let after = |numbers: &[Option<u16>]| {
         let step = |state: State, number: &Option<u16>| packet(&state, *number).1;
         numbers.iter().fold(state, step).counters
     };
-    assert_eq!(after(&[Some(10)]), Counters { passed: 0, ..full });
-    assert_eq!(after(&[None]), Counters { discarded: 0, tagless: 0, ..full });
+    assert_eq!(after(&[Some(10)]), Counters { passed: 0, ..FULL });
+    assert_eq!(after(&[None]), Counters { discarded: 0, tagless: 0, ..FULL });
     assert_eq!(
         after(&[Some(10), Some(14)]),
-        Counters { passed: 0, discarded: 0, rogue: 0, ..full }
+        Counters { passed: 0, discarded: 0, rogue: 0, ..FULL }
     );
-    assert_eq!(after(&[Some(10), Some(13)]), Counters { passed: 1, order: 0, lost: 2, ..full });
+    assert_eq!(after(&[Some(10), Some(13)]), Counters { passed: 1, order: 0, lost: 2, ..FULL });
     let (_, reset) = event(&state, Event::Reset);
-    assert_eq!(reset.counters, Counters { resets: 0, ..full });
+    assert_eq!(reset.counters, Counters { resets: 0, ..FULL });
     let (_, reset) = event(&state, Event::LatentReset);
-    assert_eq!(reset.counters, Counters { latent_resets: 0, ..full });
+    assert_eq!(reset.counters, Counters { latent_resets: 0, ..FULL });
 }
 
 /// The test's bound in 128 bits: the figure and the difference brought into 64 signed bits by hand.

@@ -338,6 +338,58 @@ static void edges(void) {
     }
 }
 
+/* Slides worked out by hand, which the paper's loop is held to as well: at the ends of a word, about its middle, and in windows that do not
+ * fill one. H, d and the marks; then the marks after it, and how many clear ones left. The number and every counter that changes wrap. */
+static void slides(void) {
+    static const struct {
+        uint16_t history, d;
+        uint64_t marks, later, lost;
+    } cases[] = {
+        {2, 1, 0x1, 0x3, 1}, /* only the newest is marked */
+        {2, 1, 0x3, 0x3, 0},
+        {3, 2, 0x1, 0x5, 2},
+        {3, 2, 0x3, 0x5, 1},
+        {4, 3, 0xF, 0x9, 0},
+        {4, 1, 0x7, 0xF, 1},
+        {63, 1, UINT64_C(0x7FFFFFFFFFFFFFFF), UINT64_C(0x7FFFFFFFFFFFFFFF), 0}, /* none comes to place 63 */
+        {63, 1, UINT64_C(0x4000000000000001), 0x3, 0},
+        {63, 62, 0x1, UINT64_C(0x4000000000000001), 62},
+        {63, 62, UINT64_C(0x7FFFFFFFFFFFFFFF), UINT64_C(0x4000000000000001), 0},
+        {64, 1, 0x1, 0x3, 1},
+        {64, 1, UINT64_MAX, UINT64_MAX, 0},
+        {64, 1, UINT64_C(0x8000000000000001), 0x3, 0}, /* the last leaves */
+        {64, 1, UINT64_C(0x4000000000000001), UINT64_C(0x8000000000000003), 1}, /* and the one before it becomes the last */
+        {64, 1, UINT64_C(0x7FFFFFFFFFFFFFFF), UINT64_MAX, 1},
+        {64, 32, UINT64_C(0x00000000FFFFFFFF), UINT64_C(0xFFFFFFFF00000001), 32},
+        {64, 32, UINT64_C(0xFFFFFFFF00000001), UINT64_C(0x0000000100000001), 0},
+        {64, 62, 0x3, UINT64_C(0xC000000000000001), 62},
+        {64, 62, 0x5, UINT64_C(0x4000000000000001), 61},
+        {64, 63, 0x1, UINT64_C(0x8000000000000001), 63}, /* all leave but the newest */
+        {64, 63, 0x3, UINT64_C(0x8000000000000001), 62},
+        {64, 63, UINT64_C(0x8000000000000001), UINT64_C(0x8000000000000001), 62},
+        {64, 63, UINT64_MAX, UINT64_C(0x8000000000000001), 0},
+    };
+    size_t i;
+    for (i = 0; i < COUNT(cases); i++) {
+        const uint16_t d = cases[i].d, number = (uint16_t)(d - 1);
+        uint64_t words[AHZ_S_WORDS], expected[AHZ_S_WORDS];
+        EXPECT(ahz_fresh(AHZ_RULE_VECTOR, 0, cases[i].history, 100, 100, 2, 1, words, AHZ_S_WORDS) == AHZ_DONE);
+        words[AHZ_S_NEWEST] = 65535;
+        words[AHZ_S_MARKS] = cases[i].marks;
+        words[AHZ_S_TAKE_ANY] = 0;
+        words[AHZ_S_LEFT] = 3;
+        words[AHZ_S_PASSED] = words[AHZ_S_ORDER] = words[AHZ_S_LOST] = UINT64_MAX;
+        memcpy(expected, words, sizeof expected);
+        expected[AHZ_S_NEWEST] = number;
+        expected[AHZ_S_MARKS] = cases[i].later;
+        expected[AHZ_S_LEFT] = 10;
+        expected[AHZ_S_PASSED]++;
+        expected[AHZ_S_ORDER] += d != 1;
+        expected[AHZ_S_LOST] += cases[i].lost;
+        EXPECT(expect_event(words, 1, number) == AHZ_PASS && memcmp(words, expected, sizeof expected) == 0);
+    }
+}
+
 /* ---- What the typed forms read of a state, and of an answer ---- */
 
 static void typed(void) {
@@ -379,6 +431,6 @@ static void answers(void) {
 }
 
 int main(void) {
-    static void (*const parts[])(void) = {edges, numbering, ticks, setups, runs, single_events, unsound, shorter, typed, answers};
+    static void (*const parts[])(void) = {edges, slides, numbering, ticks, setups, runs, single_events, unsound, shorter, typed, answers};
     return run_tests("tests/c/states.c", parts, COUNT(parts));
 }
