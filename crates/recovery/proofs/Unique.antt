@@ -14,6 +14,7 @@ use Rattle.recovery.specs.declared.Heard.{Heard}
 use Rattle.recovery.specs.declared.Timed.{Timed}
 use Rattle.recovery.specs.declared.Changed.{Changed}
 use Rattle.recovery.specs.declared.Latent.{Latent}
+use Rattle.recovery.specs.Soundness.{TellsSound}
 use Rattle.recovery.specs.Resets.{Begins, Resets}
 use Rattle.recovery.specs.Packets.{Hears}
 use Rattle.recovery.specs.Timer.{Times, Remain}
@@ -31,6 +32,9 @@ pub stores-one : (setup : Setup) (newest : ℕ) (marks : Marks) (takeAny : Bool)
 stores-one setup newest marks takeAny left counters base = one
 
 module _ (s : State) where
+  pub tells-sound-one : {a b : Bool} → TellsSound s a → TellsSound s b → a ≡ b
+  tells-sound-one = one
+
   pub hears-one : (packet : Packet) {a b : Heard} → Hears s packet a → Hears s packet b → a ≡ b
   hears-one packet = one
 

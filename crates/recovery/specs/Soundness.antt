@@ -1,4 +1,5 @@
 -- Which states are sound (document 01, "Numbering and recovery"). Assumes nothing.
+use mathlib.Core.Path.{_≡_}
 use mathlib.Core.Bool.{Bool, cond, not, _&&_, _||_}
 use lib.Dec.{leb, eqb}
 use Rattle.setup.specs.Range.{checked, isVector, fullOf}
@@ -21,3 +22,7 @@ sound s =
     && awaits s
     && (isVector (s .setup) || clearFrom 0 (s .marks))
     && leb (s .left .0) (fullOf (s .setup) .0)
+
+-- the promise of `State::is_sound`
+abbrev pub TellsSound : State → Bool → Type 0
+TellsSound s r = r ≡ sound s

@@ -2,8 +2,10 @@
 ghost use mathlib.Core.Path.{_≡_};
 ghost use mathlib.Core.Bool.{cond};
 ghost use Rattle.recovery.specs.declared.Verdict.the-variants.{Pass, Discard};
+ghost use Rattle.recovery.specs.Timer.{restarted};
 ghost use Rattle.recovery.specs.Packets.{settled, Hears};
 use crate::Heard;
+use crate::Left;
 use crate::Packet;
 use crate::State;
 use crate::Verdict;
@@ -21,11 +23,12 @@ fn verdict_of(passes: bool) -> Verdict
 }
 
 impl State {
-    // The next state, of what the packet does.
-    fn settle(mut self, take_any: bool, tagless: u64, e: Effect) -> Heard
+    // The next state, of what the packet does. The ticks left are handed in: a look at the setup here makes a tape a sixth slower
+    // (docs/MEASURES.md).
+    fn settle(mut self, take_any: bool, tagless: u64, left: Left, e: Effect) -> Heard
+        requires { ⌜ left ≡ restarted (e .passes) (self .setup) (self .left) ⌝ }
         ensures { λ r. ⌜ r ≡ settled self «take_any» tagless e ⌝ }
     {
-        let left = timer::left_after(e.passes, self.setup, self.left);
         let counters = counters::count(self.counters, tagless, e);
         let marks = e.marks;
         self.newest = e.newest;
@@ -59,11 +62,13 @@ impl State {
                     self.marks,
                     number,
                 );
-                return self.settle(false, 0, e);
+                let left = timer::left_after(e.passes, self.setup, self.left);
+                return self.settle(false, 0, left, e);
             }
             Packet::Tagless => {
                 let e = rules::hear_no_number(self.setup.taken, self.newest, self.marks);
-                return self.settle(self.take_any, 1, e);
+                let left = timer::left_after(e.passes, self.setup, self.left);
+                return self.settle(self.take_any, 1, left, e);
             }
         }
     }

@@ -2,7 +2,7 @@
 ghost use mathlib.Core.Path.{_≡_};
 ghost use mathlib.Core.Bool.{cond, not, _&&_, _||_};
 ghost use lib.Dec.{leb, eqb};
-ghost use Rattle.recovery.specs.Soundness.{sound};
+ghost use Rattle.recovery.specs.Soundness.{TellsSound};
 use crate::State;
 
 // The tests of a sound state, of its parts: `above` is that the marks at H and above are clear, `bare` that all are, and `first` that mark
@@ -23,19 +23,19 @@ fn parts_agree(
         && cond «take_any» (eqb newest 65535 && bare) (leb 1 left && (not (eqb rule 0) || first))
         && (eqb rule 0 || bare) && leb left full ⌝ }
 {
-    let vector = rule == 0;
-    let idle = (newest == 65535) & bare;
-    let busy = (1 <= left) & (!vector | first);
-    (refusal == 0)
-        & above
-        & ((take_any & idle) | (!take_any & busy))
-        & (vector | bare)
-        & (left <= full)
+    let known = (refusal == 0) & above & (left <= full);
+    if take_any {
+        return known & (newest == 65535) & bare;
+    }
+    if rule == 0 {
+        return known & (1 <= left) & first;
+    }
+    known & (1 <= left) & bare
 }
 
 impl State {
-    pub(crate) fn is_sound(self) -> bool
-        ensures { λ r. ⌜ r ≡ sound self ⌝ }
+    pub fn is_sound(self) -> bool
+        ensures { λ r. ⌜ TellsSound self r ⌝ }
     {
         let full = self.setup.full();
         let refusal = self.setup.check();

@@ -20,32 +20,36 @@ use Rattle.recovery.specs.Resets.{freshState, begunFrom}
 use Rattle.calls.specs.declared.Call.{Call}
 use Rattle.calls.specs.declared.Called.{Called}
 use Rattle.calls.specs.Answering.{answered, Answers}
+use Rattle.calls.proofs.UnsoundStays.{unsound-answered}
 use Rattle.answers.specs.Numbers.{numberOf}
 use Rattle.states.specs.declared.Held.the-variants as held-in
-use Rattle.states.specs.Fields.{held, stateOf, wordsOf, ReadsState, Keeps}
-use Rattle.states.proofs.ReadLaws.{read-state, read-nothing}
+use Rattle.states.specs.Fields.{held, stateOf, wordsOf, ReadsSound, Keeps}
+use Rattle.states.proofs.ReadLaws.{sound-read, nothing-read}
 use Rattle.states.proofs.SameWords.{room}
-use Rattle.recovery_c.specs.Recoveries.{beginChecks, StepsTo, TestsTo, BeginsTo}
+use Rattle.recovery_c.specs.Recoveries.{beginChecks, StepsTo, BeginsTo}
+use Rattle.recovery_c.proofs.Kept.{kept}
 
--- words that hold no state, and words that do
+-- words that hold no sound state, and words that do
 module _ (w : List ℕ) where
-  pub unfit-told : {call : Call} → ReadsState w held-in.Nothing → StepsTo call w 14 w
-  unfit-told p = let e = read-nothing w p in record { answer = rw e; words = rw e }
+  module _ (p : ReadsSound w held-in.Nothing) (call : Call) where
+    pub unfit-answer : 14 ≡ cond (held w) (numberOf (answered (stateOf w) call .answer)) 14
+    unfit-answer =
+        either (λ (n : ℕ). 14 ≡ n) (held w) (λ here. rw (unsound-answered (stateOf w) (nothing-read w p here) call)) (λ _. refl)
 
-  pub unfit-tested : ReadsState w held-in.Nothing → TestsTo w 14
-  unfit-tested p = rw (read-nothing w p)
+    pub unfit-told : StepsTo call w 14 w
+    unfit-told = record { answer = unfit-answer; words = sym (kept w call (nothing-read w p)) }
 
-  module _ (call : Call) {s : State} {called : Called} {r : ℕ} (p : ReadsState w (held-in.State s)) (a : Answers s call called)
+  module _ (call : Call) {s : State} {called : Called} {r : ℕ} (p : ReadsSound w (held-in.State s)) (a : Answers s call called)
       (e : r ≡ numberOf (called .answer)) where
     there : called ≡ answered (stateOf w) call
-    there = a ∙ ap (λ (t : State). answered t call) (read-state w p .1)
+    there = a ∙ ap (λ (t : State). answered t call) (sound-read w p .1)
 
     pub answer-told : r ≡ cond (held w) (numberOf (answered (stateOf w) call .answer)) 14
-    answer-told = e ∙ rw (read-state w p .0, there)
+    answer-told = e ∙ rw (sound-read w p .0, there)
 
     pub step-told : {kept : Bool} {later : List ℕ} → Keeps (called .state) w kept later → StepsTo call w r later
     step-told k =
-        let h = read-state w p .0 in
+        let h = sound-read w p .0 in
         record { answer = answer-told; words = put-first (room w h (called .state)) k ∙ rw (h, there) }
 
 -- a verdict that comes to a number refuses by it

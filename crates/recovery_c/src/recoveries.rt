@@ -1,5 +1,5 @@
 // The calls on a recovery state ("Numbering and recovery", document 01) for C: words are lent, the step is taken on the state that the
-// first of them hold, and the next state's words take their place. Words that hold no state are 14.
+// first of them hold, and the next state's words take their place. Words that hold no sound state are 14.
 use calls::Call;
 use recovery::Begun;
 use recovery::Packet;
@@ -72,7 +72,7 @@ pub extern "C" fn ahz_latent_reset(state: &mut [u64]) -> u8
 pub extern "C" fn ahz_latent_test(state: &[u64]) -> u8
     ensures { λ r. ⌜ TestsTo (now (state .entry)) r ⌝ }
 {
-    match states::read(state) {
+    match states::read_sound(state) {
         Held::State(s) => {
             let called = calls::take(s, Call::LatentTest);
             let answer = called.answer;
@@ -95,7 +95,7 @@ fn begin_in(setup: Setup, state: &mut [u64]) -> u8
 fn step_in(call: Call, state: &mut [u64]) -> u8
     ensures { λ r. ⌜ StepsTo call (now (state .entry)) r (now (state .exit)) ⌝ }
 {
-    match states::read(state) {
+    match states::read_sound(state) {
         Held::State(s) => {
             let called = calls::take(s, call);
             let answer = called.answer;

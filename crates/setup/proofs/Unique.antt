@@ -7,7 +7,7 @@ use Rattle.setup.specs.declared.Ticks.{Ticks}
 use Rattle.setup.specs.declared.Setup.{Setup}
 use Rattle.setup.specs.Values.{Makes}
 use Rattle.setup.specs.Conversion.{Converts, Counts}
-use Rattle.setup.specs.Range.{ChecksSetup, GivesFull}
+use Rattle.setup.specs.Range.{ChecksNumbers, ChecksSetup, GivesFull}
 
 pub makes-one : (rule taken history milliseconds rate paths difference : ℕ) {a b : Setup}
     → Makes rule taken history milliseconds rate paths difference a → Makes rule taken history milliseconds rate paths difference b → a ≡ b
@@ -18,6 +18,10 @@ converts-one timeout rate = one
 
 pub counts-one : (ticks : Ticks) {a b : ℕ} → Counts ticks a → Counts ticks b → a ≡ b
 counts-one ticks = one
+
+pub checks-numbers-one : (rule taken history milliseconds rate paths : ℕ) {a b : ℕ}
+    → ChecksNumbers rule taken history milliseconds rate paths a → ChecksNumbers rule taken history milliseconds rate paths b → a ≡ b
+checks-numbers-one rule taken history milliseconds rate paths p q = one (p 0) (q 0)
 
 pub checks-setup-one : (setup : Setup) {a b : ℕ} → ChecksSetup setup a → ChecksSetup setup b → a ≡ b
 checks-setup-one setup = one

@@ -7,6 +7,7 @@ use lib.Dec.{leb, eqb}
 use Rattle.octets.specs.Checks.{Check, _⇒_, verdict, refusal}
 use Rattle.setup.specs.declared.Setup.{Setup}
 use Rattle.setup.specs.declared.Ticks.{Ticks}
+use Rattle.setup.specs.Values.{setupOf}
 use Rattle.setup.specs.Conversion.{ticksOf}
 
 -- lo to hi
@@ -38,7 +39,12 @@ isVector setup = eqb (setup .rule) 0
 abbrev pub fullOf : Setup → Ticks
 fullOf setup = ticksOf (setup .timeout) (setup .rate)
 
--- the promises: of `Setup::check`
+-- the promises: of `check_numbers`, whatever the latent difference is: "0 to 2^32-1" is what its field holds
+abbrev pub ChecksNumbers : (rule taken history milliseconds rate paths : ℕ) → ℕ → Type 0
+ChecksNumbers rule taken history milliseconds rate paths r =
+    (difference : ℕ) → r ≡ checked (setupOf rule taken history milliseconds rate paths difference)
+
+-- of `Setup::check`
 abbrev pub ChecksSetup : Setup → ℕ → Type 0
 ChecksSetup setup r = r ≡ checked setup
 

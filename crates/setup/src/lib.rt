@@ -3,6 +3,8 @@ mod conversion;
 mod range;
 mod values;
 
+pub use range::check_numbers;
+
 // "two kinds of number that can't be mixed": `Milliseconds::ticks` is the one way from the first to the second. The number of milliseconds
 // is public, since any setup at all may be handed in. That of ticks is this room's own, so that no other room has ticks but by the
 // conversion.

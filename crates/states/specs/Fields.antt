@@ -13,6 +13,7 @@ use Rattle.setup.specs.Values.{setupOf}
 use Rattle.marks.specs.Window.{number, marksOf}
 use Rattle.counters.specs.declared.Counters.{Counters}
 use Rattle.recovery.specs.declared.State.{State}
+use Rattle.recovery.specs.Soundness.{sound}
 use Rattle.recovery.specs.Storage.{storedState}
 use Rattle.states.specs.declared.Held.{Held}
 use Rattle.states.specs.declared.Held.the-variants as held-in
@@ -105,9 +106,13 @@ countersIn w =
 unfoldable pub stateOf : List ℕ → State
 stateOf w = storedState (setupIn w) (word 8 w) (marksOf (word 9 w)) (eqb (word 10 w) 1) (word 11 w) (countersIn w) (word 20 w)
 
--- the promises: of `read`, the state of words that hold one
+-- what `read` gives: the state of words that hold one
 abbrev pub ReadsState : List ℕ → Held → Type 0
 ReadsState w r = r ≡ cond (held w) (held-in.State (stateOf w)) held-in.Nothing
+
+-- the promises: of `read_sound`, the state of words that hold a sound one
+abbrev pub ReadsSound : List ℕ → Held → Type 0
+ReadsSound w r = r ≡ cond (held w && sound (stateOf w)) (held-in.State (stateOf w)) held-in.Nothing
 
 -- of `keep`: the state's words are put, as `put` of `words` puts any
 abbrev pub Keeps : State → List ℕ → Bool → List ℕ → Type 0

@@ -9,7 +9,10 @@ ghost use mathlib.Core.Path.{_≡_};
 ghost use mathlib.Core.Bool.{cond};
 ghost use Prim.Native.Nat.{_≤_};
 ghost use lib.ListN.{length};
-ghost use Rattle.states.specs.Fields.{Holds, fieldsFit, held, setupIn, countersIn, stateOf, wordsOf, ReadsState, Keeps};
+ghost use lib.Dec.{eqb};
+ghost use Rattle.setup.specs.Range.{checked};
+ghost use Rattle.states.specs.Fields.{Holds, fieldsFit, held, setupIn, countersIn, stateOf, wordsOf};
+ghost use Rattle.states.specs.Fields.{ReadsState, ReadsSound, Keeps};
 
 fn fields_fit(state: &[u64]) -> bool
     requires { ⌜ 21 ≤ length (now state) ⌝ }
@@ -83,14 +86,45 @@ fn unpack(state: &[u64]) -> State
     State::stored(setup, newest, marks, take_any, left, counters, base)
 }
 
+fn setup_fits(state: &[u64]) -> bool
+    requires { ⌜ 21 ≤ length (now state) ⌝ }
+    ensures { λ r. ⌜ r ≡ eqb (checked (setupIn (now (state .entry)))) 0 ⌝ }
+{
+    setup::check_numbers(state[1], state[2], state[3], state[4], state[5], state[6]) == 0
+}
+
 // The state that the words hold.
-pub fn read(state: &[u64]) -> Held
+fn read(state: &[u64]) -> Held
     ensures { λ r. ⌜ ReadsState (now (state .entry)) r ⌝ }
 {
     if hold(state) {
         Held::State(unpack(state))
     } else {
         Held::Nothing
+    }
+}
+
+// The sound state that the words hold. The setup is checked first, on the words as they are, with one test for each number that has a
+// range: whether its field can hold the word and whether the value is in range then say nothing new, and the compiler leaves these tests
+// out.
+pub fn read_sound(state: &[u64]) -> Held
+    ensures { λ r. ⌜ ReadsSound (now (state .entry)) r ⌝ }
+{
+    if state.len() < 21 {
+        return Held::Nothing;
+    }
+    if !setup_fits(state) {
+        return Held::Nothing;
+    }
+    match read(state) {
+        Held::State(s) => {
+            if s.is_sound() {
+                Held::State(s)
+            } else {
+                Held::Nothing
+            }
+        }
+        Held::Nothing => Held::Nothing,
     }
 }
 

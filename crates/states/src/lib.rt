@@ -3,7 +3,7 @@
 mod fields;
 
 pub use fields::keep;
-pub use fields::read;
+pub use fields::read_sound;
 use recovery::State;
 
 // What lent words hold.

@@ -6,33 +6,38 @@ use core::fmt;
 /// How many words a state has.
 pub const WORDS: usize = sys::AHZ_S_WORDS;
 
-/// What becomes of a packet.
+// An answer becomes one of these three without a branch, since they have its numbers.
+
+/// What becomes of a packet. `as u8` gives the answer of the raw call.
 #[derive(Clone, Copy, Debug, PartialEq, Eq, Hash)]
 #[must_use]
+#[repr(u8)]
 pub enum Verdict {
     /// It is the first of its number: keep it.
-    Pass,
+    Pass = sys::AHZ_PASS,
     /// It is a repeat, a rogue, or has no number where none is taken.
-    Discard,
+    Discard = sys::AHZ_DISCARD,
 }
 
-/// What a tick did.
+/// What a tick did. `as u8` gives the answer of the raw call.
 #[derive(Clone, Copy, Debug, PartialEq, Eq, Hash)]
+#[repr(u8)]
 pub enum Ticked {
     /// No more than that.
-    Tick,
+    Tick = sys::AHZ_TICK,
     /// The timeout is over, and the state is reset.
-    Reset,
+    Reset = sys::AHZ_RESET,
 }
 
-/// What the latent error test found.
+/// What the latent error test found. `as u8` gives the answer of the raw call.
 #[derive(Clone, Copy, Debug, PartialEq, Eq, Hash)]
 #[must_use]
+#[repr(u8)]
 pub enum Latent {
     /// The paths bring what they should.
-    Ok,
+    Ok = sys::AHZ_LATENT_OK,
     /// They do not: a path is silent, or brings too much.
-    Error,
+    Error = sys::AHZ_LATENT_ERROR,
 }
 
 /// What a state has counted since it was fresh. Each counter wraps at 2^64.

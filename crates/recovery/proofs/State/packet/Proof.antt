@@ -18,6 +18,13 @@ enum-known-packet c = search needs
 enum-told : tie.Need-enum-told
 enum-told c = search needs
 
+-- the timer's rule gives the ticks left
+settle-requires : tie.Need-settle-requires
+settle-requires c κs = c .left-after .ensures
+
+settle-requires-2 : tie.Need-settle-requires-2
+settle-requires-2 c κs = c .left-after2 .ensures
+
 -- the state is not sound
 returns : tie.Need-returns
 unfolding packetOf
@@ -27,15 +34,19 @@ returns c = rw (said-no (c .before .is-sound .ensures) (c .if1 .taken))
 returns-2 : tie.Need-returns-2
 unfolding packetOf heard numbered isVector
 returns-2 c =
-    let told = c .before .before .before in
-    rw (sound-here (told .before .before), told .packet .given .1) (c .settle .ensures ∙ rw (c .before .hear-numbered .ensures))
+    let at-rule = c .before .before in
+    let told = at-rule .before .before in
+    rw (sound-here (told .before .before), told .packet .given .1) (c .settle .ensures ∙ rw (at-rule .hear-numbered .ensures))
 
 -- one without
 returns-3 : tie.Need-returns-3
 unfolding packetOf heard
 returns-3 c =
-    let told = c .before .before in
-    rw (sound-here (told .before .before), told .enum-told .given .1) (c .settle2 .ensures ∙ rw (c .before .hear-no-number .ensures))
+    let at-rule = c .before .before in
+    let told = at-rule .before in
+    rw (sound-here (told .before .before), told .enum-told .given .1) (c .settle2 .ensures ∙ rw (at-rule .hear-no-number .ensures))
 
 pub packet-spec : {M : Type 1} → statement M
-packet-spec = tie.close (search (tie.spec, enum-known-packet, enum-told, returns, returns-2, returns-3, needs))
+packet-spec =
+    tie.close
+    (search (tie.spec, enum-known-packet, enum-told, settle-requires, settle-requires-2, returns, returns-2, returns-3, needs))

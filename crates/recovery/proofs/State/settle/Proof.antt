@@ -8,7 +8,7 @@ returns : tie.Need-returns
 unfolding settled
 returns c =
     let counted = c .before .before in
-    rw (c .verdict-of .ensures, counted .count .ensures, counted .before .left-after .ensures)
+    rw (c .verdict-of .ensures, counted .count .ensures, counted .before .pre)
 
 pub settle-spec : {M : Type 1} → statement M
 settle-spec = tie.close (search (tie.spec, returns, needs))

@@ -1,7 +1,7 @@
 -- `ahz_latent_test` meets its promise: the test of the state that the words hold. Assumes nothing.
 use mathlib.Core.Path.{sym, _∙_}
 use Rattle.calls.specs.declared.Call.the-variants.{LatentTest}
-use Rattle.recovery_c.proofs.Told.{unfit-tested, answer-told}
+use Rattle.recovery_c.proofs.Told.{unfit-answer, answer-told}
 use borrow.Author.Needs.{needs}
 use Rattle.recovery_c.proofs.recoveries.ahz_latent_test.Statement.{statement}
 use Rattle.recovery_c.proofs.recoveries.ahz_latent_test.Tie as tie
@@ -12,19 +12,19 @@ enum-known-s c = search needs
 enum-told : tie.Need-enum-told
 enum-told c = search needs
 
--- words that hold a state
+-- words that hold a sound state
 returns : tie.Need-returns
 returns c =
     let taken = c .before in
     let known = taken .before .before in
     let read = known .before .before in
-    answer-told _ LatentTest (sym (known .s .given .1) ∙ read .read .ensures) (taken .take .ensures) (c .number-of .ensures)
+    answer-told _ LatentTest (sym (known .s .given .1) ∙ read .read-sound .ensures) (taken .take .ensures) (c .number-of .ensures)
 
--- words that hold none
+-- words that hold no sound one
 returns-2 : tie.Need-returns-2
 returns-2 c =
     let read = c .before .before in
-    unfit-tested _ (sym (c .enum-told .given .1) ∙ read .read .ensures)
+    unfit-answer _ (sym (c .enum-told .given .1) ∙ read .read-sound .ensures) LatentTest
 
 pub ahz-latent-test-spec : {M : Type 1} → statement M
 ahz-latent-test-spec = tie.close (search (tie.spec, enum-known-s, enum-told, returns, returns-2, needs))
