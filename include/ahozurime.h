@@ -22,12 +22,12 @@
  * run in several threads at once, and in an interrupt that breaks into another call, on memory of their own: what one of them writes
  * must not be lent to another meanwhile.
  *
- * From outside the archive needs memcpy and memset, and nothing else. Only ahz_tape uses them.
+ * From outside the archive needs memcpy and memset, and nothing else. Only ahz_tape_v2 uses them.
  *
- * Stack. A call takes at most AHZ_STACK octets, and ahz_tape at most AHZ_TAPE_STACK; tests/c/stack.c holds both targets to it. In this
- * version ahz_tape takes 54,160 octets on aarch64 and 54,040 on x86_64, and no other call more than 48 and 154. What memcpy and memset take
- * comes on top, and what the dynamic linker takes where it looks these two up at their first call. On x86_64 the code also writes below
- * its stack pointer, into the red zone of the System V convention.
+ * Stack. A call takes at most AHZ_STACK octets, and ahz_tape_v2 at most AHZ_TAPE_STACK; tests/c/stack.c holds both targets to it. In this
+ * version it finds some 54,200 octets for ahz_tape_v2, and no more than 100 for any other call. What memcpy and memset take comes on top,
+ * and what the dynamic linker takes where it looks these two up at their first call. On x86_64 the code also writes below its stack
+ * pointer, into the red zone of the System V convention.
  *
  * Floating point. Only ahz_volts computes with doubles. It assumes that they are rounded to nearest, that subnormal numbers are not taken
  * for zero, and that no floating-point exception traps; it may raise their flags. Its doubles are handed over in floating-point registers,
@@ -44,12 +44,27 @@
 
 /* The version of this header. MAJOR goes up where a program written for the older header could go wrong: a call, a number, a field or a
  * meaning is changed or gone, the words of a state among them; MINOR is then 0 again. MINOR goes up where something is only added. So an
- * archive fits a program where its MAJOR is that of the program's header and its MINOR is not less: ahz_version_fits. */
-#define AHZ_VERSION_MAJOR 1
+ * archive fits a program where its MAJOR is that of the program's header and its MINOR is not less: ahz_version_fits.
+ *
+ * What was compiled against an older header must not link and mean something else. So a call whose arguments, or the octets lent to it, get
+ * another meaning gets a new name, with the MAJOR since which it is so, and the old name is gone. The words of a state have their format
+ * for this, and the steps on it keep their names.
+ *
+ * From 1 to 2 a setup got a use, AHZ_USE_SEQUENCE or AHZ_USE_INDIVIDUAL: whether a discarded packet restarts the timer too.
+ *   Names: ahz_check_setup, ahz_fresh and ahz_tape are now ahz_check_setup_v2, ahz_fresh_v2 and ahz_tape_v2, and AHZ_R_TAKEN is now
+ *     AHZ_R_TAKEN_OR_USE. The use comes after taken: as an argument, in ahz_setup_t, in the words of a state, of which there are 22, and
+ *     in the setup of a tape, which has 16 octets.
+ *   Objects of version 1: with one of these calls they do not link, and the 21 words that they lend to a step are refused (14). One that
+ *     makes none of these calls and has, copies or reads states is not found out: compile all of a program against one header.
+ *   What version 1 stored: a state is refused (14); a tape that was good is a fault, 16, or 24 where it ends behind its setup.
+ *   Sources: a setup whose initialiser names its fields, and not the use, is of sequence use and does what it did. One that lists its
+ *     values without names does not compile or, where C lets it, has its history length for a use and is refused (27), since no history
+ *     length is below 2. One that is filled field by field has to be given a use. */
+#define AHZ_VERSION_MAJOR 2
 #define AHZ_VERSION_MINOR 0
 #define AHZ_VERSION (AHZ_VERSION_MAJOR * 65536u + AHZ_VERSION_MINOR)
 
-/* Octets of stack that are enough for ahz_tape, and for every other call. */
+/* Octets of stack that are enough for ahz_tape_v2, and for every other call. */
 #define AHZ_TAPE_STACK 54784
 #define AHZ_STACK 256
 
@@ -98,7 +113,7 @@ enum {
     AHZ_R_CARD_KIND = 20,      /* a card of no known kind */
     AHZ_R_CARD_CUT = 21,       /* the octets end inside a card */
     AHZ_R_CALIBRATION = 22,    /* not 0 < gain <= 1 or not -100 <= offset <= 100, a NaN among them */
-    AHZ_R_TAKEN = 27,          /* setup: taken flag not 0 or 1 */
+    AHZ_R_TAKEN_OR_USE = 27,   /* setup: taken flag or use not 0 or 1 */
 
     /* The faults of a tape. */
     AHZ_FAULT_KIND = 23,       /* an event of no known kind */
@@ -215,6 +230,8 @@ enum {
     AHZ_RULE_MATCH = 1,
     AHZ_NOT_TAKEN = 0,         /* packets without a number are discarded */
     AHZ_TAKEN = 1,             /* they pass */
+    AHZ_USE_SEQUENCE = 0,      /* for paths that are merged: only a packet that passes restarts the timer */
+    AHZ_USE_INDIVIDUAL = 1,    /* for one path alone: a discarded packet does too, so that the timer does not run out under a stuck sender */
     AHZ_HISTORY_LEAST = 2,
     AHZ_HISTORY_MOST = 64,
     AHZ_MILLISECONDS_LEAST = 1,
@@ -228,15 +245,15 @@ enum {
 /* Full ticks of a timeout: milliseconds x rate / 1000, rounded up. Any two numbers have an answer. */
 AHZ_USE_ANSWER uint64_t ahz_ticks(uint32_t milliseconds, uint16_t rate);
 
-/* Checks a setup: rule 0 vector or 1 match; taken 1 where packets without a number are taken, else 0; history 2 to 64;
- * milliseconds 1 to 3,600,000; rate, ticks per second, 1 to 10,000; paths 2 to 8; difference, the latent difference, any. A good one: 0.
- * Refusals, in this order: 15, 27, 16, 17, 18, 19. */
-AHZ_USE_ANSWER uint8_t ahz_check_setup(uint8_t rule, uint8_t taken, uint16_t history, uint32_t milliseconds, uint16_t rate, uint8_t paths,
-                                       uint32_t difference);
+/* Checks a setup: rule 0 vector or 1 match; taken 1 where packets without a number are taken, else 0; use 0 sequence or 1 individual;
+ * history 2 to 64; milliseconds 1 to 3,600,000; rate, ticks per second, 1 to 10,000; paths 2 to 8; difference, the latent difference, any.
+ * A good one: 0. Refusals, in this order: 15, 27 for taken, 27 for the use, 16, 17, 18, 19. */
+AHZ_USE_ANSWER uint8_t ahz_check_setup_v2(uint8_t rule, uint8_t taken, uint8_t use, uint16_t history, uint32_t milliseconds, uint16_t rate,
+                                          uint8_t paths, uint32_t difference);
 
-/* The first word of a state: "AHZ", and 1. It changes whenever the words of a state or their meaning change, so that a state that another
+/* The first word of a state: "AHZ", and 2. It changes whenever the words of a state or their meaning change, so that a state that another
  * version stored, or a machine of the other byte order, is refused (14) and never misread. */
-#define AHZ_STATE_FORMAT 0x41485A01
+#define AHZ_STATE_FORMAT 0x41485A02
 
 /* The words of a state. A state that a call wrote may be kept, copied or stored by its words. It is the first AHZ_S_WORDS words of what is
  * lent; later ones are neither looked at nor changed. To check words that were stored, call ahz_latent_test: it changes nothing and refuses
@@ -246,39 +263,41 @@ enum {
     AHZ_S_FORMAT = 0,          /* AHZ_STATE_FORMAT */
     AHZ_S_RULE = 1,            /* below 2^8 */
     AHZ_S_TAKEN = 2,           /* below 2^8 */
-    AHZ_S_HISTORY = 3,         /* below 2^16 */
-    AHZ_S_MILLISECONDS = 4,    /* below 2^32 */
-    AHZ_S_RATE = 5,            /* below 2^16 */
-    AHZ_S_PATHS = 6,           /* below 2^8 */
-    AHZ_S_DIFFERENCE = 7,      /* below 2^32 */
-    AHZ_S_NEWEST = 8,          /* the newest number, below 2^16 */
-    AHZ_S_MARKS = 9,           /* bit k is mark k: the number k below the newest has passed; mark 0 is the newest */
-    AHZ_S_TAKE_ANY = 10,       /* 0 or 1 */
-    AHZ_S_LEFT = 11,           /* ticks left */
-    AHZ_S_PASSED = 12,         /* the eight counters; they wrap */
-    AHZ_S_DISCARDED = 13,
-    AHZ_S_ORDER = 14,
-    AHZ_S_ROGUE = 15,
-    AHZ_S_LOST = 16,
-    AHZ_S_TAGLESS = 17,
-    AHZ_S_RESETS = 18,
-    AHZ_S_LATENT_RESETS = 19,
-    AHZ_S_BASE = 20,           /* the latent base, modulo 2^64 */
-    AHZ_S_WORDS = 21
+    AHZ_S_USE = 3,             /* below 2^8 */
+    AHZ_S_HISTORY = 4,         /* below 2^16 */
+    AHZ_S_MILLISECONDS = 5,    /* below 2^32 */
+    AHZ_S_RATE = 6,            /* below 2^16 */
+    AHZ_S_PATHS = 7,           /* below 2^8 */
+    AHZ_S_DIFFERENCE = 8,      /* below 2^32 */
+    AHZ_S_NEWEST = 9,          /* the newest number, below 2^16 */
+    AHZ_S_MARKS = 10,          /* bit k is mark k: the number k below the newest has passed; mark 0 is the newest */
+    AHZ_S_TAKE_ANY = 11,       /* 0 or 1 */
+    AHZ_S_LEFT = 12,           /* ticks left */
+    AHZ_S_PASSED = 13,         /* the eight counters; they wrap */
+    AHZ_S_DISCARDED = 14,
+    AHZ_S_ORDER = 15,
+    AHZ_S_ROGUE = 16,
+    AHZ_S_LOST = 17,
+    AHZ_S_TAGLESS = 18,
+    AHZ_S_RESETS = 19,
+    AHZ_S_LATENT_RESETS = 20,
+    AHZ_S_BASE = 21,           /* the latent base, modulo 2^64 */
+    AHZ_S_WORDS = 22
 };
 
 /* Writes a fresh state of that setup to the first AHZ_S_WORDS words of state; later ones stay. Answers 0. Fresh: newest 65,535, no mark,
  * take-any, no ticks left, counters and base 0.
- * Refusals, in this order: 15, 27, 16, 17, 18, 19 as ahz_check_setup; 8 where state_words is less than AHZ_S_WORDS. */
-AHZ_USE_ANSWER uint8_t ahz_fresh(uint8_t rule, uint8_t taken, uint16_t history, uint32_t milliseconds, uint16_t rate, uint8_t paths,
-                                 uint32_t difference, uint64_t *state, size_t state_words);
+ * Refusals, in this order: 15, 27, 16, 17, 18, 19 as ahz_check_setup_v2; 8 where state_words is less than AHZ_S_WORDS. */
+AHZ_USE_ANSWER uint8_t ahz_fresh_v2(uint8_t rule, uint8_t taken, uint8_t use, uint16_t history, uint32_t milliseconds, uint16_t rate,
+                                    uint8_t paths, uint32_t difference, uint64_t *state, size_t state_words);
 
 /* Each of these refuses by 14 alone: state_words is less than AHZ_S_WORDS, the first word is not AHZ_STATE_FORMAT, a word is one that its
  * field cannot hold, or the state is not sound (setup in range; marks at the history length and above clear; take-any means newest 65,535
  * and no mark; otherwise ticks left are 1 or more, and mark 0 is set under vector; match has no mark; ticks left are not above full ticks).
  * The words afterwards are the next state. A program that hands in only states that a call wrote never sees 14. */
 
-/* A packet with a number: AHZ_PASS, and passed +1, or AHZ_DISCARD, and discarded +1. One that passes sets ticks left to full ticks.
+/* A packet with a number: AHZ_PASS, and passed +1, or AHZ_DISCARD, and discarded +1. One that passes sets ticks left to full ticks; in
+ * individual use one that is discarded, for whatever reason, does too.
  * Take-any: it passes and is the newest, with mark 0 under vector; take-any is off.
  * Otherwise d is its number less the newest modulo 65,536, read from -32,768 to 32,767. Under vector, with history length H:
  *   d >= H or d <= -H: rogue +1, discarded;
@@ -288,8 +307,8 @@ AHZ_USE_ANSWER uint8_t ahz_fresh(uint8_t rule, uint8_t taken, uint16_t history, 
  * Under match: discarded where d is 0; else order +1 unless d is 1, it is the newest, passed. */
 AHZ_USE_ANSWER uint8_t ahz_numbered(uint64_t *state, size_t state_words, uint16_t number);
 
-/* A packet without one: tagless +1. Where such are taken AHZ_PASS, passed +1, and ticks left are full ticks; else AHZ_DISCARD, and
- * discarded +1. */
+/* A packet without one: tagless +1. Where such are taken AHZ_PASS, and passed +1; else AHZ_DISCARD, and discarded +1. It sets ticks left as
+ * one with a number does, under take-any too: so a timeout, which is a reset and is counted, may come before any number has passed. */
 AHZ_USE_ANSWER uint8_t ahz_tagless(uint64_t *state, size_t state_words);
 
 /* A tick: AHZ_TICK, with one tick less left, or still none; or AHZ_RESET where it was the last one left, and a reset followed. */
@@ -334,8 +353,8 @@ AHZ_USE_ANSWER uint8_t ahz_volts(const uint8_t *payload, size_t payload_octets, 
 
 /* ---- The bench tape ---- */
 
-/* The events of a tape, each by its kind. A setup is the first event, and there is no second: rule 1, taken 1, history 2, milliseconds 4,
- * rate 2, paths 1, difference 4. */
+/* The events of a tape, each by its kind. A setup is the first event, and there is no second: rule 1, taken 1, use 1, history 2,
+ * milliseconds 4, rate 2, paths 1, difference 4. */
 enum {
     AHZ_EVENT_NUMBERED = 0x01, /* a number, 2 octets */
     AHZ_EVENT_TAGLESS = 0x02,
@@ -343,7 +362,7 @@ enum {
     AHZ_EVENT_RESET = 0x04,
     AHZ_EVENT_LATENT_RESET = 0x05,
     AHZ_EVENT_LATENT_TEST = 0x06,
-    AHZ_EVENT_SETUP = 0x0F     /* 15 octets */
+    AHZ_EVENT_SETUP = 0x0F     /* 16 octets */
 };
 
 /* Octets of the longest tape that is no fault, and octets that hold the output of every tape. */
@@ -354,7 +373,7 @@ enum {
  * A line for each event, and one with the counters at the end; each ends with a newline. A fault of the tape, AHZ_FAULT_.. or a refusal of
  * its setup, is the line `fault N` and the last one. So every tape has an output.
  * It takes AHZ_TAPE_STACK octets of stack. Refusal: 8 where out is shorter than the output. */
-AHZ_USE_ANSWER uint8_t ahz_tape(const uint8_t *tape, size_t tape_octets, uint8_t *out, size_t out_octets, size_t *length);
+AHZ_USE_ANSWER uint8_t ahz_tape_v2(const uint8_t *tape, size_t tape_octets, uint8_t *out, size_t out_octets, size_t *length);
 
 #ifdef __cplusplus
 }
@@ -409,7 +428,8 @@ AHZ_GIVEN_UNIT(ahz_blocks_t, uint32_t, blocks);
 AHZ_GIVEN_UNIT(ahz_volts_t, double, volts);           /* from ahz_card_volts */
 
 /* The two units that a program writes, as constants: a setup of them needs no code, and may lie in flash, as
- *     static const ahz_setup_t setups[] = {{AHZ_RULE_VECTOR, AHZ_NOT_TAKEN, 8, AHZ_MS(100), AHZ_PER_SECOND(100), 2, 1}};
+ *     static const ahz_setup_t setups[] = {
+ *         {AHZ_RULE_VECTOR, AHZ_NOT_TAKEN, AHZ_USE_SEQUENCE, 8, AHZ_MS(100), AHZ_PER_SECOND(100), 2, 1}};
  * In C they are braces with the number inside, and stand in an initialiser alone. */
 #ifdef __cplusplus
 #define AHZ_MS(n) ahz_milliseconds_t{n}
@@ -419,10 +439,11 @@ AHZ_GIVEN_UNIT(ahz_volts_t, double, volts);           /* from ahz_card_volts */
 #define AHZ_PER_SECOND(n) {(n)}
 #endif
 
-/* A setup by name. See ahz_check_setup for the ranges. */
+/* A setup by name. See ahz_check_setup_v2 for the ranges. */
 typedef struct {
     uint8_t rule;               /* AHZ_RULE_VECTOR or AHZ_RULE_MATCH */
     uint8_t taken;              /* AHZ_TAKEN or AHZ_NOT_TAKEN: packets without a number */
+    uint8_t use;                /* AHZ_USE_SEQUENCE or AHZ_USE_INDIVIDUAL */
     uint16_t history;
     ahz_milliseconds_t timeout;
     ahz_rate_t rate;
@@ -512,7 +533,7 @@ AHZ_USE_ANSWER AHZ_INLINE const char *ahz_refusal_sentence(uint8_t refusal) {
     case AHZ_FAULT_CUT: return "octets end inside a tape event";
     case AHZ_FAULT_SETUP: return "setup missing or repeated on a tape";
     case AHZ_FAULT_LONG: return "tape over 4,096 octets";
-    case AHZ_R_TAKEN: return "taken flag not 0 or 1";
+    case AHZ_R_TAKEN_OR_USE: return "taken flag or use not 0 or 1";
     default: return "no refusal";
     }
 }
@@ -590,15 +611,16 @@ AHZ_INLINE void ahz_generator_restart(ahz_generator_t *generator) {
     ahz_generator_reset(&generator->next);
 }
 
-/* ahz_check_setup. */
+/* ahz_check_setup_v2. */
 AHZ_USE_ANSWER AHZ_INLINE uint8_t ahz_setup_check(ahz_setup_t setup) {
-    return ahz_check_setup(setup.rule, setup.taken, setup.history, setup.timeout.ms, setup.rate.per_second, setup.paths, setup.difference);
+    return ahz_check_setup_v2(setup.rule, setup.taken, setup.use, setup.history, setup.timeout.ms, setup.rate.per_second, setup.paths,
+                              setup.difference);
 }
 
-/* ahz_fresh. */
+/* ahz_fresh_v2. */
 AHZ_USE_ANSWER AHZ_INLINE uint8_t ahz_state_fresh(ahz_state_t *state, ahz_setup_t setup) {
-    return ahz_fresh(setup.rule, setup.taken, setup.history, setup.timeout.ms, setup.rate.per_second, setup.paths, setup.difference,
-                     state->words, AHZ_S_WORDS);
+    return ahz_fresh_v2(setup.rule, setup.taken, setup.use, setup.history, setup.timeout.ms, setup.rate.per_second, setup.paths,
+                        setup.difference, state->words, AHZ_S_WORDS);
 }
 
 /* ahz_numbered. */
@@ -636,6 +658,7 @@ AHZ_USE_ANSWER AHZ_INLINE ahz_setup_t ahz_state_setup(const ahz_state_t *state) 
     ahz_setup_t setup;
     setup.rule = AHZ_CAST(uint8_t, state->words[AHZ_S_RULE]);
     setup.taken = AHZ_CAST(uint8_t, state->words[AHZ_S_TAKEN]);
+    setup.use = AHZ_CAST(uint8_t, state->words[AHZ_S_USE]);
     setup.history = AHZ_CAST(uint16_t, state->words[AHZ_S_HISTORY]);
     setup.timeout.ms = AHZ_CAST(uint32_t, state->words[AHZ_S_MILLISECONDS]);
     setup.rate.per_second = AHZ_CAST(uint16_t, state->words[AHZ_S_RATE]);

@@ -18,8 +18,8 @@ REAL(ahz_generator);
 REAL(ahz_generate);
 REAL(ahz_generator_reset);
 REAL(ahz_ticks);
-REAL(ahz_check_setup);
-REAL(ahz_fresh);
+REAL(ahz_check_setup_v2);
+REAL(ahz_fresh_v2);
 REAL(ahz_numbered);
 REAL(ahz_tagless);
 REAL(ahz_tick);
@@ -30,7 +30,7 @@ REAL(ahz_card);
 REAL(ahz_card_octets);
 REAL(ahz_rest_octets);
 REAL(ahz_volts);
-REAL(ahz_tape);
+REAL(ahz_tape_v2);
 
 static const char *chosen = "";
 static volatile uint8_t looked_at;
@@ -177,17 +177,24 @@ uint64_t ahz_ticks(uint32_t milliseconds, uint16_t rate)
     return real_ahz_ticks(milliseconds, rate) + (fault("ticks-at-333") && rate == 333);
 }
 
-uint8_t ahz_check_setup(uint8_t rule, uint8_t taken, uint16_t history, uint32_t milliseconds, uint16_t rate, uint8_t paths,
-                        uint32_t difference)
+uint8_t ahz_check_setup_v2(uint8_t rule, uint8_t taken, uint8_t use, uint16_t history, uint32_t milliseconds, uint16_t rate, uint8_t paths,
+                           uint32_t difference)
 {
-    return real_ahz_check_setup(rule, taken, history, milliseconds, rate, paths, difference);
+    const uint8_t checked = (fault("use-2-checked") && use == 2) || fault("use-checked-last") ? AHZ_USE_SEQUENCE : use;
+    uint8_t answer = real_ahz_check_setup_v2(rule, taken, checked, history, milliseconds, rate, paths, difference);
+
+    return fault("use-checked-last") && answer == AHZ_DONE && use > AHZ_USE_INDIVIDUAL ? AHZ_R_TAKEN_OR_USE : answer;
 }
 
-uint8_t ahz_fresh(uint8_t rule, uint8_t taken, uint16_t history, uint32_t milliseconds, uint16_t rate, uint8_t paths, uint32_t difference,
-                  uint64_t *state, size_t state_words)
+uint8_t ahz_fresh_v2(uint8_t rule, uint8_t taken, uint8_t use, uint16_t history, uint32_t milliseconds, uint16_t rate, uint8_t paths,
+                     uint32_t difference, uint64_t *state, size_t state_words)
 {
-    uint8_t answer = real_ahz_fresh(rule, taken, history, milliseconds, rate, paths, difference, state, state_words);
+    const int two = fault("use-2-fresh") && use == 2;
+    uint8_t answer = real_ahz_fresh_v2(rule, taken, two ? AHZ_USE_SEQUENCE : use, history, milliseconds, rate, paths, difference, state,
+                                       state_words);
 
+    if (two && answer == AHZ_DONE)
+        state[AHZ_S_USE] = use;
     if (fault("short-first") && state_words < AHZ_S_WORDS)
         return AHZ_R_OUTPUT_SHORT;
     if (fault("short-as-unsound") && answer == AHZ_R_OUTPUT_SHORT)
@@ -226,6 +233,25 @@ static void slide(uint64_t *state, const uint64_t *before, uint16_t number)
         state[AHZ_S_MARKS] = 1;
 }
 
+/* A packet that was discarded has restarted the timer in individual use, and left it alone in sequence use. Each fault is a mistake in
+ * which of them do, or in what is then left. */
+static void timer(uint64_t *state, const uint64_t *before)
+{
+    const uint64_t full = real_ahz_ticks((uint32_t)state[AHZ_S_MILLISECONDS], (uint16_t)state[AHZ_S_RATE]);
+
+    if (state[AHZ_S_USE] == AHZ_USE_SEQUENCE) {
+        if (fault("sequence-restarts"))
+            state[AHZ_S_LEFT] = full;
+        return;
+    }
+    if (fault("individual-stays") || (fault("rogue-stays") && state[AHZ_S_ROGUE] != before[AHZ_S_ROGUE]) ||
+        (fault("tagless-stays") && state[AHZ_S_TAGLESS] != before[AHZ_S_TAGLESS]) ||
+        (fault("match-stays") && state[AHZ_S_RULE] == AHZ_RULE_MATCH) || (fault("stopped-stays") && before[AHZ_S_LEFT] == 0))
+        state[AHZ_S_LEFT] = before[AHZ_S_LEFT];
+    if (fault("one-above-full"))
+        state[AHZ_S_LEFT] = full + 1;
+}
+
 uint8_t ahz_numbered(uint64_t *state, size_t state_words, uint16_t number)
 {
     uint64_t before[AHZ_S_WORDS];
@@ -238,10 +264,15 @@ uint8_t ahz_numbered(uint64_t *state, size_t state_words, uint16_t number)
         state[AHZ_S_FORMAT] = AHZ_STATE_FORMAT;
     if (fault("mark-beyond") && state[AHZ_S_HISTORY] < 64)
         state[AHZ_S_MARKS] &= (UINT64_C(1) << state[AHZ_S_HISTORY]) - 1;
+    if (fault("use-2-in-a-state") && state[AHZ_S_USE] == 2)
+        state[AHZ_S_USE] = AHZ_USE_SEQUENCE;
     answer = real_ahz_numbered(state, state_words, number);
     state[AHZ_S_FORMAT] = before[AHZ_S_FORMAT];
+    state[AHZ_S_USE] = before[AHZ_S_USE];
     if (answer == AHZ_R_STATE)
         state[AHZ_S_MARKS] = before[AHZ_S_MARKS];
+    if (answer == AHZ_DISCARD)
+        timer(state, before);
     if (answer != AHZ_PASS)
         return answer;
     if (fault("counter-sticks") && before[AHZ_S_PASSED] == UINT64_MAX)
@@ -260,16 +291,33 @@ uint8_t ahz_numbered(uint64_t *state, size_t state_words, uint16_t number)
 
 uint8_t ahz_tagless(uint64_t *state, size_t state_words)
 {
-    return fault("tagless-as-0") ? real_ahz_numbered(state, state_words, 0) : real_ahz_tagless(state, state_words);
+    uint64_t before[AHZ_S_WORDS];
+    uint8_t answer;
+
+    if (fault("tagless-as-0"))
+        return real_ahz_numbered(state, state_words, 0);
+    if (state_words < AHZ_S_WORDS)
+        return real_ahz_tagless(state, state_words);
+    memcpy(before, state, sizeof before);
+    answer = real_ahz_tagless(state, state_words);
+    if (answer == AHZ_DISCARD)
+        timer(state, before);
+    return answer;
 }
 
 uint8_t ahz_tick(uint64_t *state, size_t state_words)
 {
+    const int takes_any = state_words >= AHZ_S_WORDS && state[AHZ_S_TAKE_ANY] == 1;
+    uint8_t answer;
+
     if (fault("longer-refused") && state_words > AHZ_S_WORDS)
         return AHZ_R_STATE;
     if (fault("timer-early") && state_words >= AHZ_S_WORDS && state[AHZ_S_LEFT] == 2)
         state[AHZ_S_LEFT] = 1;
-    return real_ahz_tick(state, state_words);
+    answer = real_ahz_tick(state, state_words);
+    if (fault("reset-not-counted") && takes_any && answer == AHZ_RESET)
+        state[AHZ_S_RESETS] -= 1;
+    return answer;
 }
 
 uint8_t ahz_reset(uint64_t *state, size_t state_words)
@@ -327,16 +375,35 @@ uint8_t ahz_volts(const uint8_t *payload, size_t payload_octets, double gain, do
 
 /* ---- The bench tape ---- */
 
-uint8_t ahz_tape(const uint8_t *tape, size_t tape_octets, uint8_t *out, size_t out_octets, size_t *length)
+/* A tape whose setup is read in a wrong way, as the one that is then run: how many octets that has, or 0 where the two are one. */
+static size_t misread(const uint8_t *tape, size_t octets, uint8_t *other)
 {
-    uint8_t answer, cut[4096];
-
-    if (fault("difference-16-bits") && tape_octets >= 16 && tape_octets <= sizeof cut && tape[0] == 0x0F) {
-        memcpy(cut, tape, tape_octets);
-        cut[12] = cut[13] = 0;
-        return real_ahz_tape(cut, tape_octets, out, out_octets, length);
+    if (octets < 17 || octets >= AHZ_TAPE_LONGEST || tape[0] != AHZ_EVENT_SETUP)
+        return 0;
+    memcpy(other, tape, octets);
+    if (fault("difference-16-bits")) {
+        other[13] = other[14] = 0;
+        return octets;
     }
-    answer = real_ahz_tape(tape, tape_octets, out, out_octets, length);
+    if (fault("use-from-taken")) {
+        other[3] = other[2];
+        return octets;
+    }
+    if (fault("setup-of-15-octets") && tape[3] == 0 && tape[4] >= AHZ_HISTORY_LEAST) {
+        memcpy(other + 4, tape + 3, octets - 3);
+        return octets + 1;
+    }
+    return 0;
+}
+
+uint8_t ahz_tape_v2(const uint8_t *tape, size_t tape_octets, uint8_t *out, size_t out_octets, size_t *length)
+{
+    uint8_t answer, other[AHZ_TAPE_LONGEST];
+    size_t octets = misread(tape, tape_octets, other);
+
+    if (octets > 0)
+        return real_ahz_tape_v2(other, octets, out, out_octets, length);
+    answer = real_ahz_tape_v2(tape, tape_octets, out, out_octets, length);
     if (fault("last-newline") && answer == AHZ_DONE)
         *length -= 1;
     if (fault("cut-as-repeated") && answer == AHZ_DONE && *length > 9 && memcmp(out + *length - 9, "fault 24\n", 9) == 0)

@@ -227,7 +227,7 @@ pub fn remove(frame: &[u8], out: &[u8], length: usize) -> (u8, Vec<u8>, usize) {
 /// The answer, the output and the length.
 pub fn tape(tape: &[u8], out: &[u8], length: usize) -> (u8, Vec<u8>, usize) {
     writes(tape, out, length, octets_of_a_tape(tape), |at, output, told| unsafe {
-        sys::ahz_tape(at, tape.len(), output, out.len(), told)
+        sys::ahz_tape_v2(at, tape.len(), output, out.len(), told)
     })
 }
 
@@ -274,8 +274,9 @@ pub fn ticks(milliseconds: u32, rate: u16) -> u64 {
     unsafe { sys::ahz_ticks(black_box(milliseconds), black_box(rate)) }
 }
 
-pub fn check_setup((rule, taken, history, ms, rate, paths, difference): SetupNumbers) -> u8 {
-    unsafe { sys::ahz_check_setup(rule, taken, history, ms, rate, paths, difference) }
+pub fn check_setup(setup: SetupNumbers) -> u8 {
+    let (rule, taken, usage, history, ms, rate, paths, difference) = setup;
+    unsafe { sys::ahz_check_setup_v2(rule, taken, usage, history, ms, rate, paths, difference) }
 }
 
 /// A call on lent words; its answer and the words.
@@ -287,9 +288,10 @@ fn steps(state: &[u64], call: impl FnOnce(*mut u64) -> u8) -> (u8, Vec<u64>) {
 
 /// The answer and the state's words.
 pub fn fresh(setup: SetupNumbers, state: &[u64]) -> (u8, Vec<u64>) {
-    let (rule, taken, history, ms, rate, paths, difference) = setup;
+    let (rule, taken, usage, history, ms, rate, paths, difference) = setup;
+    let words = state.len();
     steps(state, |at| unsafe {
-        sys::ahz_fresh(rule, taken, history, ms, rate, paths, difference, at, state.len())
+        sys::ahz_fresh_v2(rule, taken, usage, history, ms, rate, paths, difference, at, words)
     })
 }
 

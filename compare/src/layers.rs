@@ -7,13 +7,19 @@
 use crate::plain::cards::{Calibration, Card, Volts};
 use crate::plain::frame::Header;
 use crate::plain::recovery::{
-    full_ticks, Counters, Generator, Milliseconds, Setup, State, Ticks, Verdict, MATCH, VECTOR,
+    full_ticks, Counters, Generator, Milliseconds, Setup, State, Ticks, Verdict, INDIVIDUAL, MATCH,
+    SEQUENCE, VECTOR,
 };
 use crate::words::{self, HEADER, STATE};
 use crate::{guarded, plain};
 use ahozurime::recovery as safe;
 use ahozurime::{Refusal, TicksPerSecond};
 use ahozurime_sys as sys;
+
+/// Both rules of a setup, for what holds under each.
+pub const RULES: [u8; 2] = [VECTOR, MATCH];
+/// Both uses of a setup, for what holds in each.
+pub const USES: [u8; 2] = [SEQUENCE, INDIVIDUAL];
 
 /// The length of a result, or the refusal.
 type Length = Result<usize, u8>;
@@ -157,7 +163,7 @@ pub fn ticks(timeout: Milliseconds, rate: u16) -> Ticks {
     said
 }
 
-/// The setup in the package's types, which have no place for another rule or flag.
+/// The setup in the package's types, which have no place for another rule, flag or use.
 fn typed(setup: &Setup) -> Option<safe::Setup> {
     let rule = match setup.rule {
         VECTOR => safe::Rule::Vector,
@@ -169,9 +175,15 @@ fn typed(setup: &Setup) -> Option<safe::Setup> {
         1 => true,
         _ => return None,
     };
+    let usage = match setup.usage {
+        SEQUENCE => safe::Usage::Sequence,
+        INDIVIDUAL => safe::Usage::Individual,
+        _ => return None,
+    };
     Some(safe::Setup {
         rule,
         take_tagless,
+        usage,
         history: setup.history,
         timeout: ahozurime::Milliseconds(setup.timeout.0),
         rate: TicksPerSecond(setup.ticks_per_second),
@@ -187,6 +199,10 @@ fn untyped(setup: &safe::Setup) -> Setup {
             safe::Rule::Match => MATCH,
         },
         taken: setup.take_tagless.into(),
+        usage: match setup.usage {
+            safe::Usage::Sequence => SEQUENCE,
+            safe::Usage::Individual => INDIVIDUAL,
+        },
         history: setup.history,
         timeout: Milliseconds(setup.timeout.0),
         ticks_per_second: setup.rate.0,

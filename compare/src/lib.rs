@@ -1,10 +1,10 @@
 //! What the proved link layer is held against.
 //!
-//! `plain` is a second version of every call, written from document 01 and its sources and from
-//! nothing else. The proved layer is called in two ways: by the package `ahozurime`, as programs do,
-//! and by `guarded`, which has every raw call of the archive but for its version, and watches over
-//! what is lent to it. `words` has what the plain version's records are at that border, and `layers`
-//! every call, asked of all three.
+//! `plain` is a second version of every call, written from document 01, from the requests of document
+//! 02 that have landed, and from their sources, and from nothing else. The proved layer is called in
+//! two ways: by the package `ahozurime`, as programs do, and by `guarded`, which has every raw call of
+//! the archive but for its version, and watches over what is lent to it. `words` has what the plain
+//! version's records are at that border, and `layers` every call, asked of all three.
 
 pub mod guarded;
 pub mod layers;

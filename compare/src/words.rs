@@ -5,17 +5,18 @@ use crate::plain::frame::Header;
 use crate::plain::recovery::{Counters, Setup, State};
 
 pub const HEADER: usize = 8;
-pub const STATE: usize = 21;
+pub const STATE: usize = 22;
 
-/// "AHZ" and 1.
-pub const FORMAT: u64 = 0x4148_5A01;
+/// "AHZ" and 2.
+pub const FORMAT: u64 = 0x4148_5A02;
 
-/// A setup's seven numbers.
-pub type SetupNumbers = (u8, u8, u16, u32, u16, u8, u32);
+/// A setup's eight numbers.
+pub type SetupNumbers = (u8, u8, u8, u16, u32, u16, u8, u32);
 
 pub fn of_setup(setup: &Setup) -> SetupNumbers {
-    let Setup { rule, taken, history, timeout, ticks_per_second, paths, difference } = *setup;
-    (rule, taken, history, timeout.0, ticks_per_second, paths, difference)
+    let Setup { rule, taken, usage, history, timeout, ticks_per_second, paths, difference } =
+        *setup;
+    (rule, taken, usage, history, timeout.0, ticks_per_second, paths, difference)
 }
 
 fn address(octets: [u8; 6]) -> u64 {
@@ -36,7 +37,7 @@ pub fn of_header(header: &Header) -> [u64; HEADER] {
 }
 
 pub fn of_state(state: &State) -> [u64; STATE] {
-    let (rule, taken, history, timeout, ticks_per_second, paths, difference) =
+    let (rule, taken, usage, history, timeout, ticks_per_second, paths, difference) =
         of_setup(&state.setup);
     let Counters { passed, discarded, order, rogue, lost, tagless, resets, latent_resets } =
         state.counters;
@@ -44,6 +45,7 @@ pub fn of_state(state: &State) -> [u64; STATE] {
         FORMAT,
         rule.into(),
         taken.into(),
+        usage.into(),
         history.into(),
         timeout.into(),
         ticks_per_second.into(),

@@ -5,9 +5,11 @@ mod common;
 
 use ahozurime::recovery as safe;
 use ahozurime::Refusal;
-use ahozurime_sys::{AHZ_LATENT_ERROR, AHZ_LATENT_OK};
+use ahozurime_sys::{AHZ_LATENT_ERROR, AHZ_LATENT_OK, AHZ_S_USE};
 use common::report;
-use compare::layers::{self, check_setup, event, events, fresh_into, raw_event, Event, Kept};
+use compare::layers::{
+    self, check_setup, event, events, fresh_into, raw_event, Event, Kept, RULES, USES,
+};
 use compare::plain::recovery::{Counters, Milliseconds, Setup, State, Ticks, LONGEST_HISTORY};
 use compare::random::{Random, SEED};
 use compare::{guarded, words};
@@ -24,6 +26,7 @@ fn random_setup(random: &mut Random) -> Setup {
     Setup {
         rule: random.pick(&[0, 0, 1]),
         taken: random.pick(&[0, 1]),
+        usage: random.pick(&USES),
         history: random.between(2, 64) as u16,
         timeout: Milliseconds(within(random, 1, 3_600_000) as u32),
         ticks_per_second: within(random, 1, 10_000) as u16,
@@ -37,42 +40,49 @@ fn random_setup(random: &mut Random) -> Setup {
 fn setups_at_every_bound() {
     let mut random = Random::new(SEED);
     let mut cases = 0;
-    for rule in [0, 1, 2, 255] {
-        for taken in [0, 1, 2, 255] {
-            for history in [0, 1, 2, 3, 63, 64, 65, 65_535] {
-                for timeout in [0, 1, 3_600_000, 3_600_001, u32::MAX].map(Milliseconds) {
-                    for ticks_per_second in [0, 1, 10_000, 10_001, 65_535] {
-                        for paths in [0, 1, 2, 8, 9, 255] {
-                            let any = random.next_u64() as u32;
-                            let difference = random.pick(&[0, 1, 1 << 31, u32::MAX, any]);
-                            let setup = Setup {
-                                rule,
-                                taken,
-                                history,
-                                timeout,
-                                ticks_per_second,
-                                paths,
-                                difference,
-                            };
-                            cases += same_setup(&mut random, &setup);
-                        }
-                    }
-                }
-            }
-        }
+    let bounds: [&[u32]; 7] = [
+        &[0, 1, 2, 255],
+        &[0, 1, 2, 255],
+        &[0, 1, 2, 255],
+        &[0, 1, 2, 3, 63, 64, 65, 65_535],
+        &[0, 1, 3_600_000, 3_600_001, u32::MAX],
+        &[0, 1, 10_000, 10_001, 65_535],
+        &[0, 1, 2, 8, 9, 255],
+    ];
+    for combination in 0..bounds.iter().map(|values| values.len()).product() {
+        let mut rest: usize = combination;
+        let values = bounds.map(|values| {
+            let value = values[rest % values.len()];
+            rest /= values.len();
+            value
+        });
+        let [rule, taken, usage, history, timeout, ticks_per_second, paths] = values;
+        let any = random.next_u64() as u32;
+        let setup = Setup {
+            rule: rule as u8,
+            taken: taken as u8,
+            usage: usage as u8,
+            history: history as u16,
+            timeout: Milliseconds(timeout),
+            ticks_per_second: ticks_per_second as u16,
+            paths: paths as u8,
+            difference: random.pick(&[0, 1, 1 << 31, u32::MAX, any]),
+        };
+        cases += same_setup(&mut random, &setup);
     }
     report("setups, ours and plain", cases);
 }
 
-/// Every value of each field, in a setup that is else in range, under both rules; and setups that are
-/// in range anywhere.
+/// Every value of each field, in a setup that is else in range, under both rules and in both uses; and
+/// setups that are in range anywhere.
 #[test]
 fn setups_of_every_value() {
     let mut random = Random::new(SEED);
     let mut cases = 0;
     for value in 0..=u16::MAX {
-        let good = Setup { rule: (value >> 8 & 1) as u8, ..busy().setup };
-        let other = Setup { rule: 1 - good.rule, ..good };
+        let (rule, usage) = ((value >> 8 & 1) as u8, (value >> 9 & 1) as u8);
+        let good = Setup { rule, usage, ..busy().setup };
+        let other = Setup { rule: 1 - rule, usage: 1 - usage, ..good };
         let low = value as u8;
         let timeout = Milliseconds(u32::from(value) << (value % 17));
         let mut setups = vec![
@@ -86,6 +96,7 @@ fn setups_of_every_value() {
             setups.push(Setup { history: value, ..other });
             setups.push(Setup { rule: low, ..good });
             setups.push(Setup { taken: low, ..good });
+            setups.push(Setup { usage: low, ..good });
             setups.push(Setup { paths: low, ..good });
         }
         for setup in setups {
@@ -99,7 +110,7 @@ fn setups_of_every_value() {
 /// number before it looks at how many there are.
 fn same_setup(random: &mut Random, setup: &Setup) -> u64 {
     let _ = check_setup(setup);
-    for count in [0, 1, 20, 21, 22, 40] {
+    for count in [0, 1, 21, 22, 23, 40] {
         let lent: Vec<u64> = (0..count).map(|_| random.next_u64()).collect();
         let _ = fresh_into(setup, &lent);
     }
@@ -176,10 +187,11 @@ fn random_state(random: &mut Random) -> State {
     match random.below(30) {
         0 => setup.rule = 2,
         1 => setup.taken = 2,
-        2 => setup.history = random.pick(&[0, 1, 65, 65_535]),
-        3 => setup.timeout = Milliseconds(random.pick(&[0, 3_600_001])),
-        4 => setup.ticks_per_second = random.pick(&[0, 10_001]),
-        5 => setup.paths = random.pick(&[0, 1, 9]),
+        2 => setup.usage = random.pick(&[2, 255]),
+        3 => setup.history = random.pick(&[0, 1, 65, 65_535]),
+        4 => setup.timeout = Milliseconds(random.pick(&[0, 3_600_001])),
+        5 => setup.ticks_per_second = random.pick(&[0, 10_001]),
+        6 => setup.paths = random.pick(&[0, 1, 9]),
         _ => {}
     }
     let take_any = random.once_in(3);
@@ -207,7 +219,8 @@ fn random_state(random: &mut Random) -> State {
     };
     let base = counter() as i64;
     let about_16_bits = random.between(65_534, 65_538) as u64;
-    let left = [1, full, full.saturating_sub(1), full / 2 + 1, about_16_bits.min(full)];
+    let least = u64::from(!take_any);
+    let left = [least, 1, full, full.saturating_sub(1), full / 2 + 1, about_16_bits.min(full)];
     let mut state = State {
         setup,
         newest: if take_any { 65_535 } else { random.number() },
@@ -253,6 +266,7 @@ fn busy() -> State {
     let setup = Setup {
         rule: 0,
         taken: 1,
+        usage: 1,
         history: 4,
         timeout: Milliseconds(100),
         ticks_per_second: 100,
@@ -288,8 +302,8 @@ fn words_that_hold_no_state() {
     let words = words::of_state(&busy());
     // A word above what its field can hold, by one bit and by all from there on. The bits that the
     // field holds are those of a sound state.
-    let narrow = [(1, 8), (2, 8), (3, 16), (4, 32), (5, 16), (6, 8), (7, 32), (8, 16), (10, 1)];
-    for (at, bits) in narrow {
+    let of_the_setup = [(1, 8), (2, 8), (3, 8), (4, 16), (5, 32), (6, 16), (7, 8), (8, 32)];
+    for (at, bits) in of_the_setup.into_iter().chain([(9, 16), (11, 1)]) {
         for more in bits..64 {
             for above in [1 << more, u64::MAX << more] {
                 let mut lent = words;
@@ -298,7 +312,13 @@ fn words_that_hold_no_state() {
             }
         }
     }
-    // Another format: each bit of the word, those about it, and what stood first without one.
+    // A use that is none, in a state that is else sound.
+    for usage in 2..=255 {
+        let mut lent = words;
+        lent[AHZ_S_USE] = usage;
+        cases += refused(&lent, &format!("use {usage}"));
+    }
+    // Another format: each bit of the word, those about it, and what stands first without one.
     let formats = (0..64).map(|bit| words::FORMAT ^ 1 << bit);
     let others = [0, 1, u64::MAX, words::FORMAT + 1, words::FORMAT - 1, words::FORMAT.swap_bytes()];
     for format in formats.chain(others) {
@@ -309,7 +329,19 @@ fn words_that_hold_no_state() {
     let mut without = words;
     without.rotate_left(1);
     cases += refused(&without, "no format");
-    cases += refused(&without[..20], "twenty words without a format");
+    // As the first format had them: no use, and one word less; by themselves, and with any number
+    // behind them, under their own format and under this one.
+    let mut first = words.to_vec();
+    first.remove(AHZ_S_USE);
+    for format in [words::FORMAT - 1, words::FORMAT] {
+        first[0] = format;
+        cases += refused(&first, &format!("{} words of format {format:#x}", first.len()));
+        for behind in [0, 1, words[AHZ_S_USE], u64::MAX, random.next_u64()] {
+            let lent = [&first[..], &[behind; 9]].concat();
+            cases += refused(&lent[..words::STATE], &format!("format {format:#x} and {behind}"));
+            cases += refused(&lent, &format!("format {format:#x} and more of {behind}"));
+        }
+    }
     for length in 0..words::STATE {
         cases += refused(&words[..length], &format!("{length} words"));
         let noise: Vec<u64> = (0..length).map(|_| random.next_u64()).collect();
@@ -326,7 +358,7 @@ fn longer_lent_states() {
     let mut cases = 0;
     let sound = busy();
     let unsound = State { marks: 0, ..sound };
-    let counts = (22..=300).chain([511, 512, 533, 65_535, 65_536, 65_556, 65_557, 65_600]);
+    let counts = (23..=300).chain([511, 512, 534, 65_535, 65_536, 65_557, 65_558, 65_600]);
     for count in counts {
         let lent: Vec<u64> = (0..count).map(|_| random.next_u64()).collect();
         assert!(fresh_into(&sound.setup, &lent).is_ok());
@@ -359,16 +391,17 @@ fn random_event(random: &mut Random, newest: u16, history: u16) -> Event {
     }
 }
 
-/// Long lists under both rules and every H, across the wrap of the numbers.
+/// Long lists under both rules, in both uses and with every H, across the wrap of the numbers.
 #[test]
 fn event_lists_across_wraps_with_every_history() {
     let mut random = Random::new(SEED);
     let mut cases = 0;
-    for rule in [0, 1] {
+    for rule in RULES {
         for history in 2..=64 {
             let setup = Setup {
                 rule,
                 taken: (history % 2) as u8,
+                usage: (history / 2 % 2) as u8,
                 history,
                 timeout: Milliseconds(random.pick(&[1, 50, 2_000])),
                 ticks_per_second: random.pick(&[1, 100, 1_000]),
@@ -387,15 +420,16 @@ fn event_lists_across_wraps_with_every_history() {
     report("events in lists across wraps, ours and plain", cases);
 }
 
-/// Every number there is, from states of both rules whose newest stands at the ends and in between.
+/// Every number there is, from states of both rules and both uses whose newest stands at the ends and
+/// in between.
 #[test]
 fn every_number_from_some_states() {
     let mut cases = 0;
-    for rule in [0, 1] {
+    for (rule, usage) in RULES.into_iter().flat_map(|rule| USES.map(|usage| (rule, usage))) {
         for history in [2, 4, 33, 63, 64] {
             for newest in [0, 10, 32_767, 32_768, 65_535] {
                 let mut state = busy();
-                state.setup = Setup { rule, history, ..state.setup };
+                state.setup = Setup { rule, usage, history, ..state.setup };
                 state.newest = newest;
                 state.marks =
                     if rule == 1 { 0 } else { 0xAAAA_5555_AAAA_5555 >> (64 - history) | 1 };

@@ -8,6 +8,9 @@ use compare::layers::run;
 use compare::plain::tape::lines;
 use compare::random::{Random, SEED};
 
+/// Setup (vector, 0, individual, 4, 100, 100, 2, 1).
+const SETUP: [u8; 17] = [0x0F, 0, 0, 1, 0, 4, 0, 0, 0, 100, 0, 100, 2, 0, 0, 0, 1];
+
 /// A tape run into buffers of several lengths: one is longer than any output, and 16 bits of its
 /// length are too short.
 fn same(tape: &[u8]) -> u64 {
@@ -24,6 +27,7 @@ fn same(tape: &[u8]) -> u64 {
 /// A setup whose fields are mostly in range; each octet of a timeout and a difference matters.
 fn setup(random: &mut Random, tape: &mut Vec<u8>) {
     tape.extend([0x0F, random.pick(&[0, 0, 0, 1, 1, 2]), random.pick(&[0, 0, 1, 1, 1, 2])]);
+    tape.push(random.pick(&[0, 0, 0, 0, 1, 1, 1, 1, 1, 2, 255]));
     tape.extend(random.pick(&[2u16, 3, 4, 16, 63, 64, 4, 64, 1, 65]).to_be_bytes());
     let timeouts = [1u32, 11, 100, 0x100, 0x1_0001, 0x10_0000, 3_600_000, 100, 0, 3_600_001];
     tape.extend(random.pick(&timeouts).to_be_bytes());
@@ -77,11 +81,11 @@ fn tapes_of_events() {
 /// "At most 4,096 octets"; those over it are 26, however long.
 #[test]
 fn tapes_at_the_longest() {
-    let mut tape = vec![0x0F, 0, 0, 0, 4, 0, 0, 0, 100, 0, 100, 2, 0, 0, 0, 1];
+    let mut tape = SETUP.to_vec();
     let mut cases = 0;
     for kind in [3, 5, 6] {
-        for length in [4_095, 4_096, 4_097, 5_000, 65_535, 65_536, 65_552, 65_600, 69_632] {
-            tape.resize(16, 0);
+        for length in [4_095, 4_096, 4_097, 5_000, 65_535, 65_536, 65_553, 65_600, 69_632] {
+            tape.truncate(SETUP.len());
             tape.resize(length, kind);
             let faulty = lines(&tape) == b"fault 26\n";
             assert_eq!(faulty, length > 4_096, "{length}");
@@ -94,15 +98,14 @@ fn tapes_at_the_longest() {
 /// A second setup, cut or whole: 24 comes before 25, and 25 before what its fields say.
 #[test]
 fn tapes_with_a_second_setup() {
-    let setup = [0x0F, 0, 0, 0, 4, 0, 0, 0, 100, 0, 100, 2, 0, 0, 0, 1];
-    let bad = [0x0F; 16];
+    const BAD: [u8; SETUP.len()] = [0x0F; SETUP.len()];
     let mut cases = 0;
-    for second in [setup, bad] {
+    for second in [SETUP, BAD] {
         for length in 0..=second.len() {
-            let tape = [&setup[..], &[1, 0, 9, 3], &second[..length]].concat();
+            let tape = [&SETUP[..], &[1, 0, 9, 3], &second[..length]].concat();
             let fault = match length {
                 0 => "passed=1",
-                16 => "fault 25\n",
+                _ if length == second.len() => "fault 25\n",
                 _ => "fault 24\n",
             };
             let printed = String::from_utf8(lines(&tape)).unwrap();

@@ -1,7 +1,7 @@
 //! "Both sides of each edge", case for case and in the paper's order, asked of every version.
 
 use ahozurime_sys::{AHZ_DISCARD, AHZ_PASS};
-use compare::layers::{self, insert, payload, read, remove, Event, Kept};
+use compare::layers::{self, insert, payload, read, remove, Event, Kept, USES};
 use compare::plain::frame::r_tag;
 use compare::plain::recovery::{Milliseconds, Setup, Ticks, MATCH, VECTOR};
 
@@ -14,10 +14,11 @@ const REPEAT: Effect = (AHZ_DISCARD, [1, 0, 0]);
 const ROGUE: Effect = (AHZ_DISCARD, [1, 0, 1]);
 
 /// A state after numbered packets, each of which has to pass.
-fn after(rule: u8, history: u16, numbers: &[u16]) -> Kept {
+fn after(rule: u8, usage: u8, history: u16, numbers: &[u16]) -> Kept {
     let setup = Setup {
         rule,
         taken: 0,
+        usage,
         history,
         timeout: Milliseconds(100),
         ticks_per_second: 100,
@@ -31,14 +32,16 @@ fn after(rule: u8, history: u16, numbers: &[u16]) -> Kept {
     kept
 }
 
-/// One more packet, which has that effect.
+/// One more packet, which has that effect in both uses.
 fn one(rule: u8, history: u16, numbers: &[u16], number: u16, effect: Effect) {
-    let mut kept = after(rule, history, numbers);
-    let old = kept.state().counters;
-    let answer = kept.event(Event::Packet(Some(number)));
-    let new = kept.state().counters;
-    let added = [new.discarded - old.discarded, new.order - old.order, new.rogue - old.rogue];
-    assert_eq!((answer, added), effect, "{number} after {numbers:?}");
+    for usage in USES {
+        let mut kept = after(rule, usage, history, numbers);
+        let old = kept.state().counters;
+        let answer = kept.event(Event::Packet(Some(number)));
+        let new = kept.state().counters;
+        let added = [new.discarded - old.discarded, new.order - old.order, new.rogue - old.rogue];
+        assert_eq!((answer, added), effect, "{number} after {numbers:?}, use {usage}");
+    }
 }
 
 #[test]
@@ -84,8 +87,10 @@ fn milliseconds_become_ticks() {
 
 #[test]
 fn match_compares_with_the_last_only() {
-    let counters = after(MATCH, 4, &[5, 6, 5]).state().counters;
-    assert_eq!((counters.order, counters.passed), (1, 3));
+    for usage in USES {
+        let counters = after(MATCH, usage, 4, &[5, 6, 5]).state().counters;
+        assert_eq!((counters.order, counters.passed), (1, 3));
+    }
     one(MATCH, 4, &[5], 5, REPEAT);
 }
 

@@ -7,7 +7,7 @@
 use compare::guarded::{within, Fence};
 use compare::layers::*;
 use compare::plain::cards::Calibration;
-use compare::plain::recovery::{Milliseconds, Setup, State};
+use compare::plain::recovery::{Milliseconds, Setup, State, INDIVIDUAL, MATCH, SEQUENCE, VECTOR};
 
 fn fenced(calls: impl Fn()) {
     within(Fence::Before, &calls);
@@ -84,26 +84,35 @@ fn calls_on_tables() {
     });
 }
 
-/// States fresh, in use, unsound, cut and longer, under both rules; setups good and refused.
+/// States fresh, in use, unsound, cut and longer, under both rules and in both uses; setups good and
+/// refused.
 #[test]
 fn calls_on_generators_and_states() {
     let setup = Setup {
-        rule: 0,
+        rule: VECTOR,
         taken: 1,
+        usage: SEQUENCE,
         history: 4,
         timeout: Milliseconds(100),
         ticks_per_second: 100,
         paths: 2,
         difference: 0,
     };
+    let setups = [
+        setup,
+        Setup { rule: MATCH, ..setup },
+        Setup { taken: 0, usage: INDIVIDUAL, ..setup },
+        Setup { usage: 2, ..setup },
+        Setup { history: 65, ..setup },
+    ];
     fenced(|| {
         for number in [0, 7, 65_535] {
             let _ = (generate(number), generator_reset(number));
         }
         let _ = ticks(setup.timeout, 100);
-        for setup in [setup, Setup { rule: 1, ..setup }, Setup { history: 65, ..setup }] {
+        for setup in setups {
             let _ = check_setup(&setup);
-            for words in [0, 1, 20, 21, 22, 300] {
+            for words in [0, 1, 21, 22, 23, 300] {
                 let _ = fresh_into(&setup, &vec![7; words]);
             }
             let Ok(fresh) = State::fresh(setup) else { continue };
@@ -147,11 +156,11 @@ fn calls_on_payloads() {
 /// Tapes cut everywhere, the longest and longer, into rooms too short and long enough.
 #[test]
 fn calls_on_tapes() {
-    let setup = [15, 0, 0, 0, 4, 0, 0, 0, 100, 0, 100, 2, 0, 0, 0, 1];
+    let setup = [15, 0, 0, 1, 0, 4, 0, 0, 0, 100, 0, 100, 2, 0, 0, 0, 1];
     let events = [1, 0, 10, 2, 3, 4, 5, 6, 1, 0, 9, 15];
     fenced(|| {
         for whole in [[&setup[..], &events].concat(), [&setup[..], &[5; 4_081]].concat()] {
-            lengths(&whole[..28], &[4_096, 4_097, 65_536], |tape| {
+            lengths(&whole[..29], &[4_096, 4_097, 65_536], |tape| {
                 let length = lines(tape).len();
                 for room in [0, length - 1, length, length + 9] {
                     let _ = run(tape, &mut vec![7; room]);

@@ -1,7 +1,8 @@
 //! Recovery against places: every packet of a span gets a place, a signed 64-bit number, and what
 //! has passed, is lost or is still open is counted from the list of packets alone. No mark, no
 //! window of bits and no stored number of the layer is read to find the expected answer. Every version
-//! is held to it, each on a state of its own.
+//! is held to it, each on a state of its own, in both uses: these differ in when a span times out, and
+//! in nothing else.
 //!
 //! The sum behind 01's tape ("4 + 2 = 3 passed + 2 lost + 1 open") is held after each event: H and
 //! the way from the first place to the newest are the passed, the lost and the open places
@@ -11,8 +12,8 @@ mod common;
 
 use ahozurime_sys as sys;
 use common::report;
-use compare::layers::{self, Event, Kept};
-use compare::plain::recovery::{Counters, Milliseconds, Setup, State, MATCH, VECTOR};
+use compare::layers::{self, Event, Kept, USES};
+use compare::plain::recovery::{Counters, Milliseconds, Setup, State, INDIVIDUAL, MATCH, VECTOR};
 use compare::random::{Random, SEED};
 use std::collections::BTreeSet;
 
@@ -74,8 +75,8 @@ struct Model {
     span: Option<Span>,
     /// The last number passed in this span, for match.
     last: Option<u16>,
-    /// Ticks since the last passed packet of this span.
-    since_pass: Option<u64>,
+    /// Ticks since the last packet of this span that passed, or in individual use since the last one.
+    since: Option<u64>,
     counted: Counters,
     base: i128,
 }
@@ -85,7 +86,7 @@ impl Model {
         let product = u64::from(setup.timeout.0) * u64::from(setup.ticks_per_second);
         let full = product / 1000 + u64::from(product % 1000 != 0);
         let counted = Counters::default();
-        Model { setup, full, span: None, last: None, since_pass: None, counted, base: 0 }
+        Model { setup, full, span: None, last: None, since: None, counted, base: 0 }
     }
 
     fn history(&self) -> i64 {
@@ -122,11 +123,10 @@ impl Model {
             Some(number) if self.setup.rule == MATCH => self.by_match(number),
             Some(number) => self.by_place(number),
         };
-        if passes {
-            self.counted.passed += 1;
-            self.since_pass = Some(0);
-        } else {
-            self.counted.discarded += 1;
+        let counter = if passes { &mut self.counted.passed } else { &mut self.counted.discarded };
+        *counter += 1;
+        if passes || self.setup.usage == INDIVIDUAL {
+            self.since = Some(0);
         }
         passes
     }
@@ -165,8 +165,8 @@ impl Model {
     }
 
     fn tick(&mut self) -> bool {
-        self.since_pass = self.since_pass.map(|ticks| ticks + 1);
-        let timed_out = self.since_pass == Some(self.full);
+        self.since = self.since.map(|ticks| ticks + 1);
+        let timed_out = self.since == Some(self.full);
         if timed_out {
             self.reset();
         }
@@ -176,7 +176,7 @@ impl Model {
     fn reset(&mut self) {
         self.span = None;
         self.last = None;
-        self.since_pass = None;
+        self.since = None;
         self.counted.resets += 1;
     }
 
@@ -196,7 +196,7 @@ impl Model {
         assert_eq!(state.setup, self.setup);
         assert_eq!(state.counters, self.counted);
         assert_eq!(i128::from(state.base), self.base);
-        let left = self.since_pass.map_or(0, |ticks| self.full - ticks);
+        let left = self.since.map_or(0, |ticks| self.full - ticks);
         assert_eq!(state.ticks_left.0, left);
         assert_eq!(state.take_any, self.span.is_none() && self.last.is_none());
         let Some(span) = &self.span else {
@@ -249,6 +249,7 @@ fn random_setup(random: &mut Random, rule: u8, history: u16) -> Setup {
     Setup {
         rule,
         taken: random.below(2) as u8,
+        usage: random.pick(&USES),
         history,
         timeout: Milliseconds(random.between(1, 90) as u32),
         ticks_per_second: random.pick(&[1, 100, 101, 333]),
@@ -281,13 +282,14 @@ impl Held {
         }
     }
 
-    fn event(&mut self, event: Event, recount_every: u64) {
+    fn event(&mut self, event: Event, recount_every: u64) -> u8 {
         let (expected, answer) = (self.model.event(event), self.kept.event(event));
         let setup = &self.model.setup;
         assert_eq!(answer, expected, "event {}, {event:?}, {setup:?}", self.events);
         self.model.holds(&self.kept.state());
         self.model.closes(self.events % recount_every == 0);
         self.events += 1;
+        answer
     }
 }
 
@@ -321,6 +323,42 @@ fn short_lists_counted_after_each_event() {
     report("events in short lists, every H", events);
 }
 
+/// The same list in both uses, half of it ticks, with every H and both rules: the spans end by timeouts
+/// at moments that the use decides, those of a state that takes any among them.
+#[test]
+fn timeouts_at_the_moment_of_the_use() {
+    let mut random = Random::new(SEED + 4);
+    let (mut events, mut apart) = (0, 0);
+    let (mut timeouts, mut taking_any) = ([0; 2], [0; 2]);
+    for (history, list) in (2..=64).flat_map(|history| (0..24).map(move |list| (history, list))) {
+        let rule = if list % 6 == 5 { MATCH } else { VECTOR };
+        let timeout = Milliseconds(random.between(1, 80) as u32);
+        let setup =
+            Setup { timeout, ticks_per_second: 100, ..random_setup(&mut random, rule, history) };
+        let mut both = USES.map(|usage| Held::fresh(Setup { usage, ..setup }));
+        let mut moments = USES.map(|_| Vec::new());
+        for moment in 0..160 {
+            let near = both[list % 2].near(&mut random);
+            let drawn = random_event(&mut random, near, &setup);
+            let event = random.pick(&[drawn, Event::Packet(None), Event::Tick, Event::Tick]);
+            for (place, held) in both.iter_mut().enumerate() {
+                let took_any = held.kept.state().take_any;
+                if held.event(event, 1) == sys::AHZ_RESET {
+                    moments[place].push(moment);
+                    timeouts[place] += 1;
+                    taking_any[place] += u64::from(took_any && setup.taken == 0);
+                }
+                events += 1;
+            }
+        }
+        apart += u64::from(moments[0] != moments[1]);
+    }
+    assert!(timeouts.iter().all(|&timeouts| timeouts > 10_000), "{timeouts:?}");
+    assert!(taking_any[0] == 0 && taking_any[1] > 500, "by a discarded packet: {taking_any:?}");
+    assert!(apart > 700, "the uses are to differ: {apart}");
+    report("events with timeouts in both uses, every H", events);
+}
+
 /// One span for each H that goes round the numbers twice and more, with no reset and no timeout.
 #[test]
 fn long_spans_across_wraps() {
@@ -338,7 +376,7 @@ fn long_spans_across_wraps() {
             match random_event(&mut random, near, &setup) {
                 Event::Reset => continue,
                 event => held.event(event, 20_011),
-            }
+            };
             assert!(held.events < 1_000_000, "H {history} does not get on");
         }
         held.model.closes(true);

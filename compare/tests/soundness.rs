@@ -1,12 +1,15 @@
 //! "Numbering and recovery": setups and states on both sides of every bound. Every version is asked.
 
 use ahozurime_sys::{AHZ_DONE, AHZ_R_STATE};
-use compare::layers::{check_setup, event, events, fresh, Event};
-use compare::plain::recovery::{Counters, Milliseconds, Setup, State, Ticks, MATCH, VECTOR};
+use compare::layers::{check_setup, event, events, fresh, Event, RULES, USES};
+use compare::plain::recovery::{
+    Counters, Milliseconds, Setup, State, Ticks, INDIVIDUAL, MATCH, SEQUENCE, VECTOR,
+};
 
 const SETUP: Setup = Setup {
     rule: VECTOR,
     taken: 0,
+    usage: SEQUENCE,
     history: 4,
     timeout: Milliseconds(100),
     ticks_per_second: 100,
@@ -46,38 +49,73 @@ fn accepted(state: State) {
     assert_eq!(after(Event::LatentTest), state);
 }
 
-/// Setups that are out of range in one field, each with its number, in the order of the checks.
-fn one_out_of_range() -> Vec<(Setup, u8)> {
+/// The fields of a setup that are checked, in the order of the checks: the number by which one is
+/// refused, and values out of its range.
+const OUT_OF_RANGE: [(u8, &[u32]); 7] = [
+    (15, &[2, 255]),
+    (27, &[2, 255]),
+    (27, &[2, 255]),
+    (16, &[0, 1, 65, 65_535]),
+    (17, &[0, 3_600_001, u32::MAX]),
+    (18, &[0, 10_001, 65_535]),
+    (19, &[0, 1, 9, 255]),
+];
+
+/// The setup with that value in the field of that place.
+fn with(setup: Setup, field: usize, value: u32) -> Setup {
+    let (octet, number) = (value as u8, value as u16);
+    match field {
+        0 => Setup { rule: octet, ..setup },
+        1 => Setup { taken: octet, ..setup },
+        2 => Setup { usage: octet, ..setup },
+        3 => Setup { history: number, ..setup },
+        4 => Setup { timeout: Milliseconds(value), ..setup },
+        5 => Setup { ticks_per_second: number, ..setup },
+        _ => Setup { paths: octet, ..setup },
+    }
+}
+
+/// The setup with one field put out of range, in every way: the place of the field, the number by which
+/// it is refused, and the setup.
+fn one_out_of_range(setup: Setup) -> Vec<(usize, u8, Setup)> {
     let mut bad = Vec::new();
-    bad.extend([2, 255].map(|rule| (Setup { rule, ..SETUP }, 15)));
-    bad.extend([2, 255].map(|taken| (Setup { taken, ..SETUP }, 27)));
-    bad.extend([0, 1, 65, 65_535].map(|history| (Setup { history, ..SETUP }, 16)));
-    let timeouts = [0, 3_600_001, u32::MAX].map(Milliseconds);
-    bad.extend(timeouts.map(|timeout| (Setup { timeout, ..SETUP }, 17)));
-    let rates = [0, 10_001, 65_535];
-    bad.extend(rates.map(|ticks_per_second| (Setup { ticks_per_second, ..SETUP }, 18)));
-    bad.extend([0, 1, 9, 255].map(|paths| (Setup { paths, ..SETUP }, 19)));
+    for (field, (number, values)) in OUT_OF_RANGE.into_iter().enumerate() {
+        bad.extend(values.iter().map(|&value| (field, number, with(setup, field, value))));
+    }
     bad
+}
+
+/// Setups that are in range, under both rules and in both uses.
+fn in_range() -> impl Iterator<Item = Setup> {
+    RULES.into_iter().flat_map(|rule| USES.map(|usage| Setup { rule, usage, ..SETUP }))
 }
 
 /// A bad setup has its own number by itself and 14 inside a state; one at its bounds has neither.
 #[test]
 fn a_setup_by_itself_and_inside_a_state() {
-    for rule in [VECTOR, MATCH] {
-        for (setup, number) in one_out_of_range() {
-            let setup = if number == 15 { setup } else { Setup { rule, ..setup } };
+    for good in in_range() {
+        for (_, number, setup) in one_out_of_range(good) {
             assert_eq!(check_setup(&setup), Err(number), "{setup:?}");
             assert_eq!(fresh(&setup), Err(number));
-            refused(State { setup, ..fresh(&SETUP).unwrap() });
+            let (fresh, marks) = (fresh(&good).unwrap(), u64::from(good.rule == VECTOR));
+            let running =
+                State { newest: 9, marks, take_any: false, ticks_left: Ticks(1), ..fresh };
+            for state in [fresh, running] {
+                accepted(state);
+                refused(State { setup, ..state });
+            }
         }
     }
-    for (rule, taken, history, timeout, ticks_per_second, paths) in
-        [(VECTOR, 0, 2, 1, 1, 2), (MATCH, 1, 64, 3_600_000, 10_000, 8)]
-    {
+    for (rule, taken, usage, history, timeout, ticks_per_second, paths) in [
+        (VECTOR, 0, INDIVIDUAL, 2, 1, 1, 2),
+        (MATCH, 1, SEQUENCE, 64, 3_600_000, 10_000, 8),
+        (VECTOR, 1, SEQUENCE, 64, 1, 10_000, 2),
+        (MATCH, 0, INDIVIDUAL, 2, 3_600_000, 1, 8),
+    ] {
         let timeout = Milliseconds(timeout);
         for difference in [0, u32::MAX] {
             let setup =
-                Setup { rule, taken, history, timeout, ticks_per_second, paths, difference };
+                Setup { rule, taken, usage, history, timeout, ticks_per_second, paths, difference };
             assert_eq!(check_setup(&setup), Ok(()));
             accepted(fresh(&setup).unwrap());
         }
@@ -87,31 +125,14 @@ fn a_setup_by_itself_and_inside_a_state() {
 /// Of two bad fields, the one that is checked first decides.
 #[test]
 fn setup_checks_stand_in_order() {
-    let bad = one_out_of_range();
-    for (first, number) in &bad {
-        for (second, _) in bad.iter().filter(|(_, other)| other != number) {
-            let both = Setup {
-                rule: first.rule.max(second.rule),
-                taken: first.taken.max(second.taken),
-                history: if first.history == 4 { second.history } else { first.history },
-                timeout: if first.timeout == SETUP.timeout {
-                    second.timeout
-                } else {
-                    first.timeout
-                },
-                ticks_per_second: if first.ticks_per_second == 100 {
-                    second.ticks_per_second
-                } else {
-                    first.ticks_per_second
-                },
-                paths: if first.paths == 2 { second.paths } else { first.paths },
-                difference: 0,
-            };
-            let numbers = [*number, check_setup(second).unwrap_err()];
-            let place = |number| [15, 27, 16, 17, 18, 19].iter().position(|&n| n == number);
-            let expected = numbers.into_iter().min_by_key(|&number| place(number)).unwrap();
-            assert_eq!(check_setup(&both), Err(expected), "{both:?}");
-            assert_eq!(fresh(&both), Err(expected), "{both:?}");
+    for good in in_range() {
+        for (first, number, bad) in one_out_of_range(good) {
+            for (second, _, both) in one_out_of_range(bad) {
+                if first < second {
+                    assert_eq!(check_setup(&both), Err(number), "{both:?}");
+                    assert_eq!(fresh(&both), Err(number), "{both:?}");
+                }
+            }
         }
     }
 }
@@ -119,37 +140,46 @@ fn setup_checks_stand_in_order() {
 /// A fresh state, field by field; a reset gives it back but for counters, base and setup.
 #[test]
 fn fresh_and_reset() {
-    let fresh = fresh(&SETUP).unwrap();
-    let expected = State {
-        setup: SETUP,
-        newest: 65_535,
-        marks: 0,
-        take_any: true,
-        ticks_left: Ticks(0),
-        counters: Counters::default(),
-        base: 0,
-    };
-    assert_eq!(fresh, expected);
-    let counters =
-        Counters { passed: 7, resets: u64::MAX, latent_resets: 3, ..Counters::default() };
-    let used = State {
-        newest: 9,
-        marks: 0b1011,
-        take_any: false,
-        ticks_left: Ticks(4),
-        counters,
-        base: -5,
-        ..fresh
-    };
-    let counters = Counters { resets: 0, ..counters };
-    let reset = State { counters, base: -5, ..fresh };
-    assert_eq!(event(&used, Event::Reset), (AHZ_DONE, reset));
+    for setup in USES.map(|usage| Setup { usage, ..SETUP }) {
+        let fresh = fresh(&setup).unwrap();
+        let expected = State {
+            setup,
+            newest: 65_535,
+            marks: 0,
+            take_any: true,
+            ticks_left: Ticks(0),
+            counters: Counters::default(),
+            base: 0,
+        };
+        assert_eq!(fresh, expected);
+        let counters =
+            Counters { passed: 7, resets: u64::MAX, latent_resets: 3, ..Counters::default() };
+        let used = State {
+            newest: 9,
+            marks: 0b1011,
+            take_any: false,
+            ticks_left: Ticks(4),
+            counters,
+            base: -5,
+            ..fresh
+        };
+        let counters = Counters { resets: 0, ..counters };
+        let reset = State { counters, base: -5, ..fresh };
+        assert_eq!(event(&used, Event::Reset), (AHZ_DONE, reset));
+    }
 }
 
 /// Each sentence of "Sound state" on both sides, every mark under every H among them.
 #[test]
 fn unsound_in_each_respect() {
-    let fresh = fresh(&SETUP).unwrap();
+    for usage in USES {
+        each_respect(Setup { usage, ..SETUP });
+    }
+}
+
+/// Of a setup with H 4 and full ticks of 10.
+fn each_respect(setup: Setup) {
+    let fresh = fresh(&setup).unwrap();
     // Take-any: newest 65,535, no mark, ticks up to full.
     accepted(State { ticks_left: Ticks(10), ..fresh });
     refused(State { ticks_left: Ticks(11), ..fresh });
@@ -169,7 +199,7 @@ fn unsound_in_each_respect() {
     refused(State { marks: 0, ..running });
     refused(State { marks: 0b1110, ..running });
     for history in 2..=64u16 {
-        let setup = Setup { history, ..SETUP };
+        let setup = Setup { history, ..setup };
         for mark in 1..64 {
             let marked = State { setup, marks: 1 | 1 << mark, ..running };
             if mark < history {
@@ -180,7 +210,7 @@ fn unsound_in_each_respect() {
         }
     }
     // Match: no mark at all.
-    let matching = State { setup: Setup { rule: MATCH, ..SETUP }, marks: 0, ..running };
+    let matching = State { setup: Setup { rule: MATCH, ..setup }, marks: 0, ..running };
     accepted(matching);
     refused(State { ticks_left: Ticks(0), ..matching });
     refused(State { ticks_left: Ticks(11), ..matching });

@@ -7,13 +7,16 @@ use ahozurime_sys::{
     AHZ_DISCARD, AHZ_DONE, AHZ_LATENT_ERROR, AHZ_LATENT_OK, AHZ_PASS, AHZ_RESET, AHZ_TICK,
 };
 use common::report;
-use compare::layers::{event, generate, generator_reset, Event};
-use compare::plain::recovery::{Counters, Milliseconds, Setup, State, Ticks, VECTOR};
+use compare::layers::{event, generate, generator_reset, Event, Kept, RULES, USES};
+use compare::plain::recovery::{
+    Counters, Milliseconds, Setup, State, Ticks, INDIVIDUAL, MATCH, SEQUENCE, VECTOR,
+};
 use compare::random::{Random, SEED};
 
 const SETUP: Setup = Setup {
     rule: VECTOR,
     taken: 0,
+    usage: SEQUENCE,
     history: 4,
     timeout: Milliseconds(100),
     ticks_per_second: 100,
@@ -49,34 +52,195 @@ fn the_generator_wraps() {
     assert_eq!(generate(65_535), (65_535, 0));
 }
 
-/// What starts the timer, what leaves it alone, and what its end does.
+/// The number that a running state has as its newest, one that passed late under vector, and one that
+/// is a rogue under it.
+const NEWEST: u16 = 300;
+const LATE: u16 = 298;
+const FAR: u16 = 30_000;
+
+/// A state with so many ticks left: one that takes any where there is no newest number.
+fn timed(setup: Setup, newest: Option<u16>, left: u64) -> State {
+    let marked = newest.is_some() && setup.rule == VECTOR;
+    State {
+        newest: newest.unwrap_or(65_535),
+        marks: if marked { 0b101 } else { 0 },
+        take_any: newest.is_none(),
+        ticks_left: Ticks(left),
+        ..State::fresh(setup).unwrap()
+    }
+}
+
+/// The ticks that are left run out, the last in a reset that is counted; with none left, none does.
+fn runs_out(state: State) {
+    let mut kept = Kept::of(&state);
+    for left in (1..state.ticks_left.0).rev() {
+        let ticked = State { ticks_left: Ticks(left), ..state };
+        assert_eq!((kept.event(Event::Tick), kept.state()), (AHZ_TICK, ticked));
+    }
+    if state.ticks_left != Ticks(0) {
+        let counters = Counters { resets: state.counters.resets + 1, ..state.counters };
+        let reset = State { counters, ..timed(state.setup, None, 0) };
+        assert_eq!((kept.event(Event::Tick), kept.state()), (AHZ_RESET, reset));
+    }
+    let stands = kept.state();
+    assert_eq!((kept.event(Event::Tick), kept.state()), (AHZ_TICK, stands), "0 stays 0");
+}
+
+/// The most full ticks for which the timer is seen to run out.
+const FEW: Ticks = Ticks(30);
+
+/// Setups whose full ticks are each number up to a few, and some with many more.
+fn timeouts(setup: Setup) -> impl Iterator<Item = Setup> {
+    let few = (1..=FEW.0 as u32).map(|ticks| (10 * ticks, 100));
+    let many = [(3_600_000, 333), (3_599_999, 10_000), (3_600_000, 10_000)];
+    few.chain(many).map(move |(milliseconds, ticks_per_second)| Setup {
+        timeout: Milliseconds(milliseconds),
+        ticks_per_second,
+        ..setup
+    })
+}
+
+/// Ticks that a state of that newest number may have left: none only where it takes any.
+fn lefts(newest: Option<u16>, full: Ticks) -> impl Iterator<Item = u64> {
+    newest.is_none().then_some(0).into_iter().chain([1, full.0 / 2 + 1, full.0])
+}
+
+/// "Only a passed packet" restarts the timer in sequence use; "in individual use a discarded packet
+/// also". Each rule, each use and each kind of discard, of states with few ticks left and many, those
+/// that take any among them: nothing else moves, and what is left then runs out.
 #[test]
-fn the_timer() {
-    let setup = Setup { taken: 1, ..SETUP };
-    // A packet without a number that passed starts the timer though any number is still taken.
-    let (answer, mut state) = packet(&State::fresh(setup).unwrap(), None);
-    assert_eq!((answer, state.ticks_left, state.take_any), (AHZ_PASS, Ticks(10), true));
-    for left in (0..10).rev() {
-        let answer;
-        (answer, state) = event(&state, Event::Tick);
-        let expected = if left == 0 { AHZ_RESET } else { AHZ_TICK };
-        assert_eq!((answer, state.ticks_left), (expected, Ticks(left)));
+fn discards_and_the_timer() {
+    let mut cases = 0;
+    let discards = [
+        (VECTOR, Some(NEWEST), Some(NEWEST)),
+        (VECTOR, Some(NEWEST), Some(LATE)),
+        (VECTOR, Some(NEWEST), Some(FAR)),
+        (VECTOR, Some(NEWEST), None),
+        (VECTOR, None, None),
+        (MATCH, Some(NEWEST), Some(NEWEST)),
+        (MATCH, Some(NEWEST), None),
+        (MATCH, None, None),
+    ];
+    for (usage, (rule, newest, number)) in
+        USES.into_iter().flat_map(|usage| discards.map(|discard| (usage, discard)))
+    {
+        for setup in timeouts(Setup { rule, usage, ..SETUP }) {
+            let full = setup.full_ticks();
+            for left in lefts(newest, full) {
+                let state = timed(setup, newest, left);
+                let counters = Counters {
+                    discarded: 1,
+                    rogue: u64::from(number == Some(FAR)),
+                    tagless: u64::from(number.is_none()),
+                    ..Counters::default()
+                };
+                let ticks_left = if usage == INDIVIDUAL { full } else { Ticks(left) };
+                let next = State { ticks_left, counters, ..state };
+                assert_eq!(packet(&state, number), (AHZ_DISCARD, next), "{number:?}, {state:?}");
+                if full <= FEW {
+                    runs_out(next);
+                }
+                cases += 1;
+            }
+        }
     }
-    assert_eq!(state.counters.resets, 1);
-    assert_eq!(event(&state, Event::Tick), (AHZ_TICK, state), "0 stays 0");
-    // A discarded packet leaves the timer alone, and a timeout lets the next number in.
-    let (_, state) = packet(&state, Some(5));
-    let (_, state) = event(&state, Event::Tick);
-    for number in [Some(5), Some(5_000)] {
-        let (answer, state) = packet(&state, number);
-        assert_eq!((answer, state.ticks_left), (AHZ_DISCARD, Ticks(9)));
+    report("discards and the timer", cases);
+}
+
+/// A passed packet restarts the timer in both uses, whatever it passes by; one without a number
+/// though any number is still taken.
+#[test]
+fn passes_and_the_timer() {
+    let mut cases = 0;
+    for (rule, usage) in RULES.into_iter().flat_map(|rule| USES.map(|usage| (rule, usage))) {
+        for setup in timeouts(Setup { rule, usage, taken: 1, ..SETUP }) {
+            let full = setup.full_ticks();
+            for (newest, number) in [
+                (None, Some(NEWEST)),
+                (None, None),
+                (Some(NEWEST), None),
+                (Some(NEWEST), Some(NEWEST + 1)),
+                (Some(NEWEST), Some(NEWEST + 3)),
+                (Some(NEWEST), Some(NEWEST - 3)),
+            ] {
+                for left in lefts(newest, full) {
+                    let state = timed(setup, newest, left);
+                    let (answer, next) = packet(&state, number);
+                    assert_eq!((answer, next.ticks_left), (AHZ_PASS, full), "{state:?}");
+                    assert_eq!(next.take_any, newest.is_none() && number.is_none());
+                    if full <= FEW {
+                        runs_out(next);
+                    }
+                    cases += 1;
+                }
+            }
+        }
     }
-    let state = State { setup: Setup { taken: 0, ..setup }, ..state };
-    let (answer, state) = packet(&state, None);
-    assert_eq!((answer, state.ticks_left), (AHZ_DISCARD, Ticks(9)));
-    let (answer, state) = event(&State { ticks_left: Ticks(1), ..state }, Event::Tick);
-    assert_eq!((answer, state.take_any), (AHZ_RESET, true));
-    assert_eq!((state.newest, state.marks), (65_535, 0));
+    report("passes and the timer", cases);
+}
+
+/// Which packets of a stuck sender pass, from how many ticks lie before each of them alone. In sequence
+/// use one passes where full ticks lie between it and the last that passed; in individual use, where
+/// they lie between it and the one before it.
+fn let_through(usage: u8, gaps: &[u64], full: u64) -> Vec<bool> {
+    let mut silence = 0;
+    let passes = |&gap: &u64| {
+        silence = if usage == INDIVIDUAL { gap } else { silence + gap };
+        let passes = silence >= full;
+        if passes {
+            silence = 0;
+        }
+        passes
+    };
+    gaps.iter().map(passes).collect()
+}
+
+/// "A stuck sender repeated one number and our timer ran out under it, letting the repeat through":
+/// so it is in sequence use. In individual use, of the same packets and ticks, none passes that comes
+/// within the timeout; one that comes after it does.
+#[test]
+fn a_stuck_sender() {
+    let mut random = Random::new(SEED);
+    let (mut cases, mut with_repeats) = (0, 0);
+    for round in 0..3_000 {
+        let full = random.between(1, 40) as u64;
+        // A silence that is long enough comes in every third list.
+        let longest = if round % 3 == 0 { full } else { full - 1 };
+        let gap = |_| {
+            let any = random.below(longest + 1);
+            random.pick(&[longest, any])
+        };
+        let gaps: Vec<u64> = (0..60).map(gap).collect();
+        let setup =
+            Setup { rule: random.pick(&RULES), timeout: Milliseconds(10 * full as u32), ..SETUP };
+        // The number that is repeated has passed before; or, under vector, it is a rogue at first.
+        let (number, far) = (random.number(), setup.rule == VECTOR && random.once_in(2));
+        let first =
+            if far { number.wrapping_add(random.between(4, 65_532) as u16) } else { number };
+        for usage in USES {
+            let mut kept = Kept::of(&State::fresh(Setup { usage, ..setup }).unwrap());
+            assert_eq!(kept.event(Event::Packet(Some(first))), AHZ_PASS);
+            let expected = let_through(usage, &gaps, full);
+            for (&gap, &passes) in gaps.iter().zip(&expected) {
+                for _ in 0..gap {
+                    kept.event(Event::Tick);
+                }
+                let answer = if passes { AHZ_PASS } else { AHZ_DISCARD };
+                assert_eq!(kept.event(Event::Packet(Some(number))), answer, "{setup:?}, {gaps:?}");
+                cases += 1;
+            }
+            let repeats = expected.iter().filter(|&&passes| passes).count() as u64;
+            assert_eq!(kept.state().counters.passed, 1 + repeats);
+            assert_eq!(kept.state().counters.resets, repeats, "one for each that is let through");
+            if usage == INDIVIDUAL && longest < full {
+                assert_eq!(repeats, 0);
+            } else {
+                with_repeats += u64::from(repeats > 0);
+            }
+        }
+    }
+    assert!(with_repeats > 3_500, "few stuck senders were let through: {with_repeats}");
+    report("packets of a stuck sender", cases);
 }
 
 /// The marks as a row of places, the newest first. Mark 0, which is the newest, is set in every

@@ -7,8 +7,12 @@ use common::report;
 use compare::layers::{lines, run};
 use compare::random::{Random, SEED};
 
-/// Setup (vector, 0, 4, 100, 100, 2, 1).
-const SETUP: [u8; 16] = [0x0F, 0, 0, 0, 4, 0, 0, 0, 100, 0, 100, 2, 0, 0, 0, 1];
+/// Setup (vector, 0, sequence, 4, 100, 100, 2, 1).
+const SETUP: [u8; 17] = [0x0F, 0, 0, 0, 0, 4, 0, 0, 0, 100, 0, 100, 2, 0, 0, 0, 1];
+
+/// Where two of its octets stand.
+const TAKEN: usize = 2;
+const USE: usize = 3;
 
 const NOTHING: &str =
     "passed=0 discarded=0 order=0 rogue=0 lost=0 tagless=0 resets=0 latent-resets=0\n";
@@ -65,7 +69,7 @@ fn every_line() {
 #[test]
 fn packets_without_a_number_may_be_taken() {
     let mut tape = SETUP.to_vec();
-    tape[2] = 1;
+    tape[TAKEN] = 1;
     tape.extend([2, 3, 3]);
     assert!(printed(&tape).starts_with("ok\npass\ntick\ntick\npassed=1 discarded=0"));
 }
@@ -78,7 +82,7 @@ fn faults_of_the_tape() {
         assert_eq!(printed(&[kind]), "fault 23\n");
         assert_eq!(after_setup(&[3, kind, 3]), "ok\ntick\nfault 23\n");
     }
-    for length in 1..16 {
+    for length in 1..SETUP.len() {
         assert_eq!(printed(&SETUP[..length]), "fault 24\n");
         assert_eq!(after_setup(&SETUP[..length]), "ok\nfault 24\n", "cut before repeated");
     }
@@ -94,25 +98,103 @@ fn faults_of_the_tape() {
     assert_eq!(after_setup(&[3, 4, 1, 0, 7, 0x0F]), "ok\ntick\nreset\npass\nfault 24\n");
 }
 
-/// 15, 27, 16 to 19, in this order.
+/// 15, 27, 27, 16 to 19, in this order.
 #[test]
 fn faults_of_the_setup() {
     // Each field just out of range, from the last one checked to the first, so that each hides
-    // those set before it: 19, 18, 17, 16, 27, 15.
+    // those set before it: 19, 18, 17, 16, 27 by the use, 27 by taken, 15.
     let mut tape = SETUP;
-    tape[11] = 9;
+    tape[12] = 9;
     assert_eq!(printed(&tape), "fault 19\n");
-    tape[9..11].copy_from_slice(&10_001u16.to_be_bytes());
+    tape[10..12].copy_from_slice(&10_001u16.to_be_bytes());
     assert_eq!(printed(&tape), "fault 18\n");
-    tape[5..9].copy_from_slice(&3_600_001u32.to_be_bytes());
+    tape[6..10].copy_from_slice(&3_600_001u32.to_be_bytes());
     assert_eq!(printed(&tape), "fault 17\n");
-    tape[3..5].copy_from_slice(&65u16.to_be_bytes());
+    tape[4..6].copy_from_slice(&65u16.to_be_bytes());
     assert_eq!(printed(&tape), "fault 16\n");
-    tape[2] = 2;
+    tape[USE] = 2;
+    assert_eq!(printed(&tape), "fault 27\n");
+    tape[USE] = 0;
+    tape[TAKEN] = 2;
     assert_eq!(printed(&tape), "fault 27\n");
     tape[1] = 2;
     assert_eq!(printed(&tape), "fault 15\n");
     assert_eq!(printed(&[&tape[..], &[0xFF]].concat()), "fault 15\n", "left to right");
+}
+
+/// "0 sequence, 1 individual, else 27", whatever the octet of taken says.
+#[test]
+fn every_use_of_a_setup() {
+    for (usage, taken) in (0..=255).flat_map(|usage| [0, 1].map(|taken| (usage, taken))) {
+        let mut tape = SETUP;
+        (tape[TAKEN], tape[USE]) = (taken, usage);
+        let expected = if usage > 1 { "fault 27\n".into() } else { format!("ok\n{NOTHING}") };
+        assert_eq!(printed(&tape), expected, "use {usage}, taken {taken}");
+    }
+}
+
+/// A setup of 15 octets, without a use, as tapes once had it: cut where nothing comes behind it, and
+/// else out of range, since its history length is read as 256 times that.
+#[test]
+fn a_setup_without_a_use() {
+    let mut old = SETUP.to_vec();
+    old.remove(USE);
+    for (history, rule, taken) in (2..=64).flat_map(|history| {
+        [(0, 0), (0, 1), (1, 0), (1, 1)].map(move |(rule, taken)| (history, rule, taken))
+    }) {
+        (old[1], old[2], old[4]) = (rule, taken, history);
+        assert_eq!(printed(&old), "fault 24\n");
+        for event in [&[1, 0, 10][..], &[2], &[3], &[4], &[5], &[6], &SETUP] {
+            assert_eq!(printed(&[&old, event].concat()), "fault 16\n", "{history}, {event:?}");
+        }
+    }
+}
+
+/// A sender that is stuck on one number, and one that sends none where none is taken: the same packets
+/// and ticks in both uses. Ten ticks are full.
+#[test]
+fn the_use_decides_on_the_timer() {
+    // What is printed but for the ticks.
+    let printed = |usage, taken, events: &[u8]| {
+        let mut tape = [&SETUP, events].concat();
+        (tape[TAKEN], tape[USE]) = (taken, usage);
+        printed(&tape).replace("tick\n", "")
+    };
+    let nine = [3; 9];
+    // 10; then twice over nine ticks, 10 again, a tick, and 10 again.
+    let again = [&nine[..], &[1, 0, 10, 3, 1, 0, 10]].concat();
+    let stuck = [&[1, 0, 10], &again[..], &again].concat();
+    for taken in [0, 1] {
+        assert_eq!(
+            printed(0, taken, &stuck),
+            "ok\npass\ndiscard\nreset\npass\ndiscard\nreset\npass\n\
+             passed=3 discarded=2 order=0 rogue=0 lost=0 tagless=0 resets=2 latent-resets=0\n"
+        );
+        assert_eq!(
+            printed(1, taken, &stuck),
+            "ok\npass\ndiscard\ndiscard\ndiscard\ndiscard\n\
+             passed=1 discarded=4 order=0 rogue=0 lost=0 tagless=0 resets=0 latent-resets=0\n"
+        );
+    }
+    // None, nine ticks, none, and ten more, the last of which times out where the second none counts.
+    let none = [&[2], &nine[..], &[2], &nine, &[3]].concat();
+    assert_eq!(
+        printed(0, 0, &none),
+        "ok\ndiscard\ndiscard\n\
+         passed=0 discarded=2 order=0 rogue=0 lost=0 tagless=2 resets=0 latent-resets=0\n"
+    );
+    assert_eq!(
+        printed(1, 0, &none),
+        "ok\ndiscard\ndiscard\nreset\n\
+         passed=0 discarded=2 order=0 rogue=0 lost=0 tagless=2 resets=1 latent-resets=0\n"
+    );
+    for usage in [0, 1] {
+        assert_eq!(
+            printed(usage, 1, &none),
+            "ok\npass\npass\nreset\n\
+             passed=2 discarded=0 order=0 rogue=0 lost=0 tagless=2 resets=1 latent-resets=0\n"
+        );
+    }
 }
 
 /// 4,096 octets run; one more is 26, before all else.
@@ -120,7 +202,8 @@ fn faults_of_the_setup() {
 fn the_longest_tape() {
     let mut tape = SETUP.to_vec();
     tape.resize(4_096, 3);
-    assert_eq!(printed(&tape), format!("ok\n{}{NOTHING}", "tick\n".repeat(4_080)));
+    let ticks = "tick\n".repeat(4_096 - SETUP.len());
+    assert_eq!(printed(&tape), format!("ok\n{ticks}{NOTHING}"));
     tape.push(3);
     assert_eq!(printed(&tape), "fault 26\n");
     assert_eq!(printed(&[0xFF; 5_000]), "fault 26\n", "26 before all else");

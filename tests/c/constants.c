@@ -6,15 +6,16 @@
 #define HOLDS(what) typedef char NAMED(__LINE__)[(what) ? 1 : -1]
 
 /* The version, as the preprocessor sees it too. */
-#if AHZ_VERSION != 65536 || AHZ_VERSION_MAJOR != 1 || AHZ_VERSION_MINOR != 0
-#error "the version is not 1.0"
+#if AHZ_VERSION != 131072 || AHZ_VERSION_MAJOR != 2 || AHZ_VERSION_MINOR != 0
+#error "the version is not 2.0"
 #endif
 
 /* When the layer says no. */
 HOLDS(AHZ_R_FRAME_SHORT == 1 && AHZ_R_FRAME_LONG == 2 && AHZ_R_TAG_CUT == 3 && AHZ_R_TAG_TWICE == 4 && AHZ_R_VLAN == 5);
 HOLDS(AHZ_R_TAG_THERE == 6 && AHZ_R_NO_TAG == 9 && AHZ_R_RESULT_LONG == 7 && AHZ_R_OUTPUT_SHORT == 8);
 HOLDS(AHZ_R_ENTRY_KIND == 10 && AHZ_R_ENTRY_CUT == 11 && AHZ_R_ENTRY_RANGE == 12 && AHZ_R_ENTRY_257 == 13 && AHZ_R_STATE == 14);
-HOLDS(AHZ_R_RULE == 15 && AHZ_R_HISTORY == 16 && AHZ_R_MILLISECONDS == 17 && AHZ_R_RATE == 18 && AHZ_R_PATHS == 19 && AHZ_R_TAKEN == 27);
+HOLDS(AHZ_R_RULE == 15 && AHZ_R_HISTORY == 16 && AHZ_R_MILLISECONDS == 17 && AHZ_R_RATE == 18 && AHZ_R_PATHS == 19);
+HOLDS(AHZ_R_TAKEN_OR_USE == 27);
 HOLDS(AHZ_R_CARD_KIND == 20 && AHZ_R_CARD_CUT == 21 && AHZ_R_CALIBRATION == 22);
 HOLDS(AHZ_FAULT_KIND == 23 && AHZ_FAULT_CUT == 24 && AHZ_FAULT_SETUP == 25 && AHZ_FAULT_LONG == 26);
 
@@ -38,15 +39,17 @@ HOLDS(AHZ_ENTRY_OCTETS == 1 + 6 + 1 + 2 + 2 && AHZ_TABLE_ENTRIES == 256 && AHZ_T
 
 /* Numbering and recovery. */
 HOLDS(AHZ_RULE_VECTOR == 0 && AHZ_RULE_MATCH == 1 && AHZ_NOT_TAKEN == 0 && AHZ_TAKEN == 1);
+HOLDS(AHZ_USE_SEQUENCE == 0 && AHZ_USE_INDIVIDUAL == 1);
 HOLDS(AHZ_HISTORY_LEAST == 2 && AHZ_HISTORY_MOST == 64 && AHZ_MILLISECONDS_LEAST == 1 && AHZ_MILLISECONDS_MOST == 3600000);
 HOLDS(AHZ_RATE_LEAST == 1 && AHZ_RATE_MOST == 10000 && AHZ_PATHS_LEAST == 2 && AHZ_PATHS_MOST == 8);
 
-/* A state: a format, seven numbers of a setup, four of the window and the timer, eight counters, a base. */
-HOLDS(AHZ_STATE_FORMAT == (('A' * 256 + 'H') * 256 + 'Z') * 256 + 1);
-HOLDS(AHZ_S_FORMAT == 0 && AHZ_S_RULE == 1 && AHZ_S_TAKEN == 2 && AHZ_S_HISTORY == 3 && AHZ_S_MILLISECONDS == 4 && AHZ_S_RATE == 5);
-HOLDS(AHZ_S_PATHS == 6 && AHZ_S_DIFFERENCE == 7 && AHZ_S_NEWEST == 8 && AHZ_S_MARKS == 9 && AHZ_S_TAKE_ANY == 10 && AHZ_S_LEFT == 11);
-HOLDS(AHZ_S_PASSED == 12 && AHZ_S_DISCARDED == 13 && AHZ_S_ORDER == 14 && AHZ_S_ROGUE == 15 && AHZ_S_LOST == 16 && AHZ_S_TAGLESS == 17);
-HOLDS(AHZ_S_RESETS == 18 && AHZ_S_LATENT_RESETS == 19 && AHZ_S_BASE == 20 && AHZ_S_WORDS == 1 + 7 + 4 + 8 + 1);
+/* A state: a format, eight numbers of a setup, four of the window and the timer, eight counters, a base. */
+HOLDS(AHZ_STATE_FORMAT == (('A' * 256 + 'H') * 256 + 'Z') * 256 + 2);
+HOLDS(AHZ_S_FORMAT == 0 && AHZ_S_RULE == 1 && AHZ_S_TAKEN == 2 && AHZ_S_USE == 3 && AHZ_S_HISTORY == 4 && AHZ_S_MILLISECONDS == 5);
+HOLDS(AHZ_S_RATE == 6 && AHZ_S_PATHS == 7 && AHZ_S_DIFFERENCE == 8);
+HOLDS(AHZ_S_NEWEST == 9 && AHZ_S_MARKS == 10 && AHZ_S_TAKE_ANY == 11 && AHZ_S_LEFT == 12);
+HOLDS(AHZ_S_PASSED == 13 && AHZ_S_DISCARDED == 14 && AHZ_S_ORDER == 15 && AHZ_S_ROGUE == 16 && AHZ_S_LOST == 17 && AHZ_S_TAGLESS == 18);
+HOLDS(AHZ_S_RESETS == 19 && AHZ_S_LATENT_RESETS == 20 && AHZ_S_BASE == 21 && AHZ_S_WORDS == 1 + 8 + 4 + 8 + 1);
 
 /* Charge cards, and the bench tape, of which 13 octets are the longest line for one octet and 231 the longest line of all. */
 HOLDS(AHZ_CARD_END == 0x00 && AHZ_CARD_FLUSH_ORDER == 0x10 && AHZ_CARD_RAW_CODE == 0x11 && AHZ_CARD_MILLIVOLTS == 0x12);
@@ -58,13 +61,14 @@ HOLDS(AHZ_TAPE_LONGEST == 4096 && AHZ_TAPE_OUTPUT == 13 * 4096 + 231 && AHZ_TAPE
 /* A unit is its number, and a state and a header are their words, so that each can be stored. */
 HOLDS(sizeof(ahz_milliseconds_t) == 4 && sizeof(ahz_rate_t) == 2 && sizeof(ahz_ticks_t) == 8 && sizeof(ahz_volts_t) == 8);
 HOLDS(sizeof(ahz_raw_code_t) == 2 && sizeof(ahz_millivolts_t) == 2 && sizeof(ahz_blocks_t) == 4);
-HOLDS(sizeof(ahz_generator_t) == 2 && sizeof(ahz_state_t) == 21 * 8 && sizeof(ahz_header_t) == 8 * 8 && sizeof(ahz_counters_t) == 8 * 8);
+HOLDS(sizeof(ahz_generator_t) == 2 && sizeof(ahz_state_t) == 22 * 8 && sizeof(ahz_header_t) == 8 * 8 && sizeof(ahz_counters_t) == 8 * 8);
 
 /* A setup that a compiler works out, so that a program may keep it in flash. */
+#define SETUP {AHZ_RULE_MATCH, AHZ_TAKEN, AHZ_USE_INDIVIDUAL, 8, AHZ_MS(AHZ_MILLISECONDS_MOST), AHZ_PER_SECOND(AHZ_RATE_MOST), 2, 1}
 extern const ahz_setup_t setups[1];
 #ifdef __cplusplus
-constexpr ahz_setup_t setups[1] = {{AHZ_RULE_MATCH, AHZ_TAKEN, 8, AHZ_MS(AHZ_MILLISECONDS_MOST), AHZ_PER_SECOND(AHZ_RATE_MOST), 2, 1}};
-HOLDS(setups[0].timeout.ms == 3600000 && setups[0].rate.per_second == 10000);
+constexpr ahz_setup_t setups[1] = {SETUP};
+HOLDS(setups[0].use == 1 && setups[0].timeout.ms == 3600000 && setups[0].rate.per_second == 10000);
 #else
-const ahz_setup_t setups[1] = {{AHZ_RULE_MATCH, AHZ_TAKEN, 8, AHZ_MS(AHZ_MILLISECONDS_MOST), AHZ_PER_SECOND(AHZ_RATE_MOST), 2, 1}};
+const ahz_setup_t setups[1] = {SETUP};
 #endif

@@ -1,5 +1,5 @@
-/* Document 01 as small functions, which say what is expected of the layer. They are written from the paper, and are slow and plain: no bit
- * is counted at once, and marks are an array. None of them calls the layer. */
+/* Document 01 as small functions, with the use of document 02's CR 2. They say what is expected of the layer, are written from the papers,
+ * and are slow and plain: no bit is counted at once, and marks are an array. None of them calls the layer. */
 #ifndef PAPER_H
 #define PAPER_H
 
@@ -88,7 +88,7 @@ static inline uint8_t paper_lookup(const uint8_t *table, size_t table_octets, co
 /* ---- Numbering and recovery ---- */
 
 typedef struct {
-    uint64_t rule, taken, history, ms, rate, paths, difference;
+    uint64_t rule, taken, use, history, ms, rate, paths, difference;
 } PaperSetup;
 
 typedef struct {
@@ -104,6 +104,7 @@ static inline uint64_t paper_ticks(uint64_t ms, uint64_t rate) {
 static inline uint8_t paper_check_setup(PaperSetup setup) {
     if (setup.rule > 1) return 15;
     if (setup.taken > 1) return 27;
+    if (setup.use > 1) return 27;
     if (setup.history < 2 || setup.history > 64) return 16;
     if (setup.ms < 1 || setup.ms > 3600000) return 17;
     if (setup.rate < 1 || setup.rate > 10000) return 18;
@@ -126,21 +127,21 @@ static inline PaperState paper_fresh(PaperSetup setup) {
     return state;
 }
 
-/* Where each word of a state is kept; not the format, 0, nor the marks, 9. */
+/* Where each word of a state is kept; not the format, 0, nor the marks, 10. */
 static inline uint64_t *paper_field(PaperState *state, unsigned word) {
-    uint64_t *const fields[] = {&state->setup.rule, &state->setup.taken, &state->setup.history, &state->setup.ms, &state->setup.rate,
-                                &state->setup.paths, &state->setup.difference, &state->newest, NULL, &state->take_any, &state->left,
-                                &state->passed, &state->discarded, &state->order, &state->rogue, &state->lost, &state->tagless,
-                                &state->resets, &state->latent_resets, &state->base};
+    uint64_t *const fields[] = {&state->setup.rule, &state->setup.taken, &state->setup.use, &state->setup.history, &state->setup.ms,
+                                &state->setup.rate, &state->setup.paths, &state->setup.difference, &state->newest, NULL, &state->take_any,
+                                &state->left, &state->passed, &state->discarded, &state->order, &state->rogue, &state->lost,
+                                &state->tagless, &state->resets, &state->latent_resets, &state->base};
     return word == 0 ? NULL : fields[word - 1];
 }
 
 static inline void paper_words(PaperState *state, uint64_t *words) {
     unsigned k;
-    words[0] = 0x41485A01;
-    words[9] = 0;
-    for (k = 0; k < 64; k++) words[9] += state->marks[k] << k;
-    for (k = 0; k < 21; k++) {
+    words[0] = 0x41485A02;
+    words[10] = 0;
+    for (k = 0; k < 64; k++) words[10] += state->marks[k] << k;
+    for (k = 0; k < 22; k++) {
         if (paper_field(state, k) != NULL) words[k] = *paper_field(state, k);
     }
 }
@@ -149,14 +150,14 @@ static inline void paper_words(PaperState *state, uint64_t *words) {
 static inline int paper_state(const uint64_t *words, PaperState *state) {
     uint64_t any_mark = 0;
     unsigned k;
-    for (k = 0; k < 21; k++) {
+    for (k = 0; k < 22; k++) {
         if (paper_field(state, k) != NULL) *paper_field(state, k) = words[k];
     }
     for (k = 0; k < 64; k++) {
-        state->marks[k] = words[9] >> k & 1;
+        state->marks[k] = words[10] >> k & 1;
         any_mark |= state->marks[k];
     }
-    if (words[0] != 0x41485A01 || paper_check_setup(state->setup) != 0 || state->setup.difference > UINT32_MAX) return 0;
+    if (words[0] != 0x41485A02 || paper_check_setup(state->setup) != 0 || state->setup.difference > UINT32_MAX) return 0;
     for (k = 0; k < 64; k++) {
         if (k >= state->setup.history && state->marks[k] == 1) return 0;
     }
@@ -168,14 +169,12 @@ static inline int paper_state(const uint64_t *words, PaperState *state) {
     return state->left <= paper_ticks(state->setup.ms, state->setup.rate);
 }
 
+/* "In individual use a discarded packet also restarts the timer; in sequence use nothing changes." */
 static inline uint8_t paper_verdict(PaperState *state, int passes) {
-    if (!passes) {
-        state->discarded++;
-        return AHZ_DISCARD;
-    }
-    state->passed++;
-    state->left = paper_ticks(state->setup.ms, state->setup.rate);
-    return AHZ_PASS;
+    if (passes) state->passed++;
+    else state->discarded++;
+    if (passes || state->setup.use == 1) state->left = paper_ticks(state->setup.ms, state->setup.rate);
+    return passes ? AHZ_PASS : AHZ_DISCARD;
 }
 
 static inline uint8_t paper_numbered(PaperState *state, uint16_t number) {
@@ -301,7 +300,7 @@ static inline size_t paper_tape(const uint8_t *tape, size_t octets, char *out) {
     memset(&state, 0, sizeof state);
     while (fault == 0 && at < octets) {
         const uint8_t kind = tape[at], *body = tape + at + 1;
-        const size_t body_octets = kind == 1 ? 2 : kind == 0x0F ? 15 : 0;
+        const size_t body_octets = kind == 1 ? 2 : kind == 0x0F ? 16 : 0;
         if (kind != 0x0F && (kind < 1 || kind > 6)) fault = 23;
         else if (octets - at - 1 < body_octets) fault = 24;
         else if ((at == 0) != (kind == 0x0F)) fault = 25;
@@ -309,11 +308,12 @@ static inline size_t paper_tape(const uint8_t *tape, size_t octets, char *out) {
             PaperSetup setup;
             setup.rule = body[0];
             setup.taken = body[1];
-            setup.history = big_endian(body + 2, 2);
-            setup.ms = big_endian(body + 4, 4);
-            setup.rate = big_endian(body + 8, 2);
-            setup.paths = body[10];
-            setup.difference = big_endian(body + 11, 4);
+            setup.use = body[2];
+            setup.history = big_endian(body + 3, 2);
+            setup.ms = big_endian(body + 5, 4);
+            setup.rate = big_endian(body + 9, 2);
+            setup.paths = body[11];
+            setup.difference = big_endian(body + 12, 4);
             fault = paper_check_setup(setup);
             state = paper_fresh(setup);
             if (fault == 0) to += sprintf(to, "ok\n");

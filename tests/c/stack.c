@@ -50,7 +50,7 @@ static const struct {
 enum { FRAMES = sizeof frames / sizeof frames[0] };
 static const uint8_t table[] = {2, 0x02, 0, 0, 0, 0, 0x06, 1, 0, 5, 0, 8, 1, 0x02, 0, 0, 0, 0, 0x07, 3, 0, 0, 0, 7};
 static const uint8_t payload[] = {0x10, 0, 0, 0, 1, 0x11, 0, 10, 0x12, 0x0F, 0xA0, 0x00, 0x13};
-static const uint8_t tape[] = {0x0F, 0, 0, 0, 4, 0, 0, 0, 100, 0, 100, 2, 0, 0, 0, 1, 1, 0, 10, 1, 0, 10, 2, 3, 1, 0, 20, 4, 5, 6};
+static const uint8_t tape[] = {0x0F, 0, 0, 0, 0, 4, 0, 0, 0, 100, 0, 100, 2, 0, 0, 0, 1, 1, 0, 10, 1, 0, 10, 2, 3, 1, 0, 20, 4, 5, 6};
 
 static uint64_t state[AHZ_S_WORDS], header[AHZ_H_WORDS];
 static uint8_t out[AHZ_TAPE_OUTPUT];
@@ -59,7 +59,7 @@ static uint16_t handle;
 static uint32_t value;
 static double volts;
 static volatile uint64_t answer; /* so that no answer is unused */
-static unsigned i, rule;
+static unsigned i, rule, use;
 
 static void none(void) { answer = 0; }
 static void version(void) { answer = ahz_version(); }
@@ -86,22 +86,24 @@ static void generation(void) { answer = ahz_generate(&handle); }
 static void generator_reset(void) { ahz_generator_reset(&handle); }
 static void ticks(void) { answer = ahz_ticks(11, 100); }
 static void setup_check(void) {
-    for (i = 0; i < 3; i++) answer = ahz_check_setup((uint8_t)i, 0, 8, 100, 100, 2, 1);
+    for (i = 0; i < 3; i++) answer = ahz_check_setup_v2((uint8_t)i, 0, 0, 8, 100, 100, 2, 1);
 }
 static void fresh(void) {
-    for (i = 0; i < 3; i++) answer = ahz_fresh((uint8_t)(2 - i), 0, 8, 100, 100, 2, 1, state, AHZ_S_WORDS);
+    for (i = 0; i < 3; i++) answer = ahz_fresh_v2((uint8_t)(2 - i), 0, 0, 8, 100, 100, 2, 1, state, AHZ_S_WORDS);
 }
-/* Under both rules: a first packet, then each difference, near and far; and a state that is not sound. */
+/* Under both rules and in both uses: a first packet, then each difference, near and far; and a state that is not sound. */
 static void packets(void) {
     for (rule = 0; rule < 2; rule++) {
-        answer = ahz_fresh((uint8_t)rule, 0, 8, 100, 100, 2, 1, state, AHZ_S_WORDS);
-        for (i = 0; i < 40; i++) answer = ahz_numbered(state, AHZ_S_WORDS, (uint16_t)(i * 7 % 20 + i));
+        for (use = 0; use < 2; use++) {
+            answer = ahz_fresh_v2((uint8_t)rule, 0, (uint8_t)use, 8, 100, 100, 2, 1, state, AHZ_S_WORDS);
+            for (i = 0; i < 40; i++) answer = ahz_numbered(state, AHZ_S_WORDS, (uint16_t)(i * 7 % 20 + i));
+        }
     }
     answer = ahz_numbered(state, 0, 0);
 }
 static void tagless(void) {
-    for (i = 0; i < 2; i++) {
-        answer = ahz_fresh(0, (uint8_t)i, 8, 100, 100, 2, 1, state, AHZ_S_WORDS);
+    for (i = 0; i < 4; i++) {
+        answer = ahz_fresh_v2(0, (uint8_t)(i % 2), (uint8_t)(i / 2), 8, 100, 100, 2, 1, state, AHZ_S_WORDS);
         answer = ahz_tagless(state, AHZ_S_WORDS);
     }
     answer = ahz_tagless(state, 0);
@@ -135,8 +137,8 @@ static void reading_volts(void) {
     for (i = 0; i < sizeof payload; i++) answer = ahz_volts(payload + i, sizeof payload - i, 0.25, 0.5, &volts);
 }
 static void bench(void) {
-    for (i = 0; i <= sizeof tape; i++) answer = ahz_tape(tape, i, out, sizeof out, &length);
-    answer = ahz_tape(tape, sizeof tape, out, 0, &length);
+    for (i = 0; i <= sizeof tape; i++) answer = ahz_tape_v2(tape, i, out, sizeof out, &length);
+    answer = ahz_tape_v2(tape, sizeof tape, out, 0, &length);
 }
 
 int main(void) {
@@ -150,13 +152,13 @@ int main(void) {
         {"ahz_remove", removal, AHZ_STACK},          {"ahz_check_table", table_check, AHZ_STACK},
         {"ahz_lookup", lookup, AHZ_STACK},           {"ahz_generator", generator, AHZ_STACK},
         {"ahz_generate", generation, AHZ_STACK},     {"ahz_generator_reset", generator_reset, AHZ_STACK},
-        {"ahz_ticks", ticks, AHZ_STACK},             {"ahz_check_setup", setup_check, AHZ_STACK},
-        {"ahz_fresh", fresh, AHZ_STACK},             {"ahz_numbered", packets, AHZ_STACK},
+        {"ahz_ticks", ticks, AHZ_STACK},             {"ahz_check_setup_v2", setup_check, AHZ_STACK},
+        {"ahz_fresh_v2", fresh, AHZ_STACK},          {"ahz_numbered", packets, AHZ_STACK},
         {"ahz_tagless", tagless, AHZ_STACK},         {"ahz_tick", tick, AHZ_STACK},
         {"ahz_reset", resets, AHZ_STACK},            {"ahz_latent_reset", latent_reset, AHZ_STACK},
         {"ahz_latent_test", latent_test, AHZ_STACK}, {"ahz_card", card, AHZ_STACK},
         {"ahz_card_octets", card_part, AHZ_STACK},   {"ahz_rest_octets", rest_part, AHZ_STACK},
-        {"ahz_volts", reading_volts, AHZ_STACK},     {"ahz_tape", bench, AHZ_TAPE_STACK},
+        {"ahz_volts", reading_volts, AHZ_STACK},     {"ahz_tape_v2", bench, AHZ_TAPE_STACK},
     };
     const size_t own = taken(none);
     int failed = 0;

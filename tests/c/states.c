@@ -1,4 +1,4 @@
-/* Numbering, ticks, setups and recovery, and their typed forms: all 21 words of a state after each event against document 01, in long runs
+/* Numbering, ticks, setups and recovery, and their typed forms: all 22 words of a state after each event against the papers, in long runs
  * of events from fresh states, and from states of every kind, sound and not, with counters that wrap. */
 #include "check.h"
 #include "paper.h"
@@ -48,8 +48,8 @@ static void ticks(void) {
 
 /* A setup alone, and for a fresh state in so many words, both as bare numbers and typed. */
 static void expect_setup(PaperSetup s, size_t words) {
-    const uint8_t refusal = paper_check_setup(s), answer = refusal == 0 && words < 21 ? 8 : refusal;
-    const uint8_t rule = (uint8_t)s.rule, taken = (uint8_t)s.taken, paths = (uint8_t)s.paths;
+    const uint8_t refusal = paper_check_setup(s), answer = refusal == 0 && words < 22 ? 8 : refusal;
+    const uint8_t rule = (uint8_t)s.rule, taken = (uint8_t)s.taken, use = (uint8_t)s.use, paths = (uint8_t)s.paths;
     const uint16_t history = (uint16_t)s.history, rate = (uint16_t)s.rate;
     const uint32_t ms = (uint32_t)s.ms, difference = (uint32_t)s.difference;
     PaperState state = paper_fresh(s);
@@ -58,13 +58,14 @@ static void expect_setup(PaperSetup s, size_t words) {
     paper_words(&state, expected);
     setup.rule = rule;
     setup.taken = taken;
+    setup.use = use;
     setup.history = history;
     setup.timeout = ahz_milliseconds(ms);
     setup.rate = ahz_rate(rate);
     setup.paths = paths;
     setup.difference = difference;
-    EXPECT(ahz_check_setup(rule, taken, history, ms, rate, paths, difference) == refusal && ahz_setup_check(setup) == refusal);
-    EXPECT(ahz_fresh(rule, taken, history, ms, rate, paths, difference, lent, words) == answer);
+    EXPECT(ahz_check_setup_v2(rule, taken, use, history, ms, rate, paths, difference) == refusal && ahz_setup_check(setup) == refusal);
+    EXPECT(ahz_fresh_v2(rule, taken, use, history, ms, rate, paths, difference, lent, words) == answer);
     EXPECT(holds(&space, expected, answer == 0 ? sizeof expected : 0));
     if (words == AHZ_S_WORDS) {
         ahz_state_t *typed = (ahz_state_t *)lend_aligned(&space, NULL, sizeof(ahz_state_t));
@@ -72,39 +73,54 @@ static void expect_setup(PaperSetup s, size_t words) {
     }
 }
 
+/* The last digit of a number by that base; the number loses it. */
+static size_t digit(size_t *number, size_t base) {
+    const size_t last = *number % base;
+    *number /= base;
+    return last;
+}
+
+/* Numbers about the edges of each range, each with each, in a record for a state and some in longer and shorter ones; then every length of
+ * a record, and every use. */
 static void setups(void) {
     static const uint8_t flags[] = {0, 1, 2, 255}, paths[] = {0, 1, 2, 3, 8, 9, 255};
     static const uint16_t histories[] = {0, 1, 2, 64, 65, 258, 65535}, rates[] = {0, 1, 333, 10000, 10001, 65535};
     static const uint32_t ms[] = {0, 1, 3600000, 3600001, 0x80000000, 0x80000001}, differences[] = {0, 1, 0x80000000, 0xFFFFFFFF};
-    size_t r, t, h, m, k, p, d = 0;
-    PaperSetup s;
-    for (r = 0; r < COUNT(flags); r++) {
-        for (t = 0; t < COUNT(flags); t++) {
-            for (h = 0; h < COUNT(histories); h++) {
-                for (m = 0; m < COUNT(ms); m++) {
-                    for (k = 0; k < COUNT(rates); k++) {
-                        for (p = 0; p < COUNT(paths); p++) {
-                            s.rule = flags[r];
-                            s.taken = flags[t];
-                            s.history = histories[h];
-                            s.ms = ms[m];
-                            s.rate = rates[k];
-                            s.paths = paths[p];
-                            s.difference = differences[d++ % COUNT(differences)];
-                            expect_setup(s, AHZ_S_WORDS);
-                            if (d % 16 == 0) expect_setup(s, d % 25);
-                        }
-                    }
-                }
-            }
-        }
+    const size_t all = COUNT(flags) * COUNT(flags) * COUNT(flags) * COUNT(histories) * COUNT(ms) * COUNT(rates) * COUNT(paths);
+    PaperSetup s, good = {0, 0, 0, 4, 100, 100, 2, 1};
+    size_t n, rest;
+    for (n = 0; n < all; n++) {
+        rest = n;
+        s.rule = flags[digit(&rest, COUNT(flags))];
+        s.taken = flags[digit(&rest, COUNT(flags))];
+        s.use = flags[digit(&rest, COUNT(flags))];
+        s.history = histories[digit(&rest, COUNT(histories))];
+        s.ms = ms[digit(&rest, COUNT(ms))];
+        s.rate = rates[digit(&rest, COUNT(rates))];
+        s.paths = paths[digit(&rest, COUNT(paths))];
+        s.difference = differences[roll() % COUNT(differences)];
+        expect_setup(s, AHZ_S_WORDS);
+        if (roll() % 16 == 0) expect_setup(s, roll() % 27);
     }
-    s.rule = s.taken = 0;
-    s.history = 4;
-    s.ms = s.rate = 100;
-    s.paths = 2;
-    s.difference = 1;
-    for (d = 0; d < 26; d++) expect_setup(s, d);
+    for (n = 0; n < 27; n++) expect_setup(good, n);
+    for (n = 0; n < 256; n++) {
+        good.use = n;
+        expect_setup(good, AHZ_S_WORDS);
+    }
+}
+
+/* A setup with nothing right, and its numbers put right one after the other: the order of the refusals, written out. */
+static void setup_order(void) {
+    static const uint8_t refusals[] = {15, 27, 27, 16, 17, 18, 19, 0};
+    static const uint64_t right[] = {1, 1, 1, 64, 3600000, 10000, 8};
+    PaperSetup s = {2, 2, 2, 65, 3600001, 10001, 9, 1};
+    uint64_t *const numbers[] = {&s.rule, &s.taken, &s.use, &s.history, &s.ms, &s.rate, &s.paths};
+    size_t i;
+    for (i = 0; i < COUNT(refusals); i++) {
+        EXPECT(paper_check_setup(s) == refusals[i]);
+        expect_setup(s, AHZ_S_WORDS);
+        if (i < COUNT(right)) *numbers[i] = right[i];
+    }
 }
 
 /* ---- Recovery ---- */
@@ -161,7 +177,8 @@ static uint8_t expect_event(uint64_t *words, uint8_t kind, uint16_t number) {
 
 /* One of each kind on the same words, the packets near the newest number, about the ends of the window, and far away. */
 static void expect_each(const uint64_t *words) {
-    const int near[] = {0, 1, -1, 2, (int)words[3] - 1, (int)words[3], 1 - (int)words[3], -(int)words[3], 32767, -32768, -32767};
+    const int history = (int)words[AHZ_S_HISTORY];
+    const int near[] = {0, 1, -1, 2, history - 1, history, 1 - history, -history, 32767, -32768, -32767};
     uint64_t copy[AHZ_S_WORDS];
     size_t i;
     uint8_t kind;
@@ -171,7 +188,7 @@ static void expect_each(const uint64_t *words) {
     }
     for (i = 0; i < COUNT(near); i++) {
         memcpy(copy, words, sizeof copy);
-        (void)expect_event(copy, 1, (uint16_t)(words[8] + (uint64_t)(int64_t)near[i]));
+        (void)expect_event(copy, 1, (uint16_t)(words[AHZ_S_NEWEST] + (uint64_t)(int64_t)near[i]));
     }
 }
 
@@ -183,6 +200,7 @@ static PaperSetup any_setup(void) {
     PaperSetup s;
     s.rule = roll() % 2;
     s.taken = roll() % 2;
+    s.use = roll() % 2;
     s.history = histories[roll() % COUNT(histories)];
     s.ms = timeouts[timeout][0];
     s.rate = timeouts[timeout][1];
@@ -200,11 +218,12 @@ static void runs(void) {
         uint64_t words[AHZ_S_WORDS];
         fresh.setup.rule = run % 2;
         fresh.setup.taken = run / 2 % 2;
+        fresh.setup.use = run / 4 % 2;
         paper_words(&fresh, words);
         for (i = 0; i < 400; i++) {
-            const unsigned what = (unsigned)(roll() % 64), window = 2 * (unsigned)words[3] + 3;
-            const uint64_t near = words[8] + roll() % window - words[3] - 1;
-            if (what < 12) answered[expect_event(words, 1, (uint16_t)(words[8] + 1))]++;
+            const uint64_t what = roll() % 64, history = words[AHZ_S_HISTORY], newest = words[AHZ_S_NEWEST];
+            const uint64_t near = newest + roll() % (2 * history + 3) - history - 1;
+            if (what < 12) answered[expect_event(words, 1, (uint16_t)(newest + 1))]++;
             else if (what < 40) answered[expect_event(words, 1, (uint16_t)near)]++;
             else if (what < 42) answered[expect_event(words, 1, (uint16_t)roll())]++;
             else if (what < 46) answered[expect_event(words, 2, 0)]++;
@@ -236,7 +255,7 @@ static PaperState any_state(void) {
         if (state.left == 0) state.left = 1;
         for (k = 0; k < state.setup.history && state.setup.rule == 0; k++) state.marks[k] = k == 0 || roll() % 3 > 0;
     }
-    for (k = 12; k < 20; k++) *paper_field(&state, k) = any_counter();
+    for (k = AHZ_S_PASSED; k < AHZ_S_BASE; k++) *paper_field(&state, k) = any_counter();
     /* The base: about as far from the figure as the difference is, on both sides, and as far away as can be. */
     apart = state.setup.difference + roll() % 3 - 1;
     if (roll() % 8 == 0) apart = (UINT64_C(1) << 63) + roll() % 3 - 1;
@@ -259,7 +278,7 @@ static void single_events(void) {
         PaperState state = any_state();
         uint64_t words[AHZ_S_WORDS];
         unsigned k;
-        for (k = 12; k < 20; k++) *paper_field(&state, k) = UINT64_MAX;
+        for (k = AHZ_S_PASSED; k < AHZ_S_BASE; k++) *paper_field(&state, k) = UINT64_MAX;
         paper_words(&state, words);
         expect_each(words);
     }
@@ -269,7 +288,7 @@ static void single_events(void) {
 static void unsound(void) {
     static const uint64_t numbers[] = {0, 1, 2, 3, 4, 7, 8, 9, 63, 64, 65, 255, 256, 257, 258, 9999, 10000, 10001, 65534, 65535, 65536,
                                        3600000, 3600001, UINT32_MAX, UINT64_C(1) << 32, (UINT64_C(1) << 32) + 1, UINT64_C(1) << 63,
-                                       UINT64_MAX, 0x41485A00, 0x41485A02, 0x015A4841};
+                                       UINT64_MAX, 0x41485A01, 0x41485A03, 0x025A4841};
     unsigned n, word, refused = 0;
     size_t i;
     for (n = 0; n < 12; n++) {
@@ -277,13 +296,14 @@ static void unsound(void) {
         uint64_t words[AHZ_S_WORDS], other[AHZ_S_WORDS];
         state.setup.rule = n % 2;
         state.take_any = n / 2 % 3 == 0;
+        state.setup.use = n / 6;
         if (state.take_any == 1 || state.setup.rule == 1) memset(state.marks, 0, sizeof state.marks);
         if (state.take_any == 1) state.newest = 65535;
         if (state.take_any == 0 && state.left == 0) state.left = 1;
         if (state.take_any == 0 && state.setup.rule == 0) state.marks[0] = 1;
         paper_words(&state, words);
         EXPECT(paper_state(words, &changed) == 1);
-        for (word = 0; word <= 11; word++) {
+        for (word = 0; word <= AHZ_S_LEFT; word++) {
             const uint64_t full = paper_ticks(state.setup.ms, state.setup.rate), was = words[word];
             const uint64_t own[] = {was ^ 1, was + 256, was + 65536, was + (UINT64_C(1) << 32), was | UINT64_C(1) << 63, full, full + 1,
                                     was | UINT64_C(1) << state.setup.history % 64, was | UINT64_C(1) << (state.setup.history - 1)};
@@ -298,21 +318,47 @@ static void unsound(void) {
     EXPECT(refused > 1000);
 }
 
+static void expect_no_state(const uint64_t *words, size_t count) {
+    uint8_t kind;
+    for (kind = 1; kind <= 6; kind++) {
+        EXPECT(event((uint64_t *)lend_aligned(&space, words, count * 8), count, kind, 7) == AHZ_R_STATE && kept_but(&space, 0));
+    }
+}
+
 /* Fewer words than a state has are none, whatever they hold. */
 static void shorter(void) {
     PaperState state = any_state();
     uint64_t words[AHZ_S_WORDS];
     size_t count;
-    uint8_t kind;
     paper_words(&state, words);
-    for (count = 0; count < AHZ_S_WORDS; count++) {
-        for (kind = 1; kind <= 6; kind++) {
-            EXPECT(event((uint64_t *)lend_aligned(&space, words, count * 8), count, kind, 7) == AHZ_R_STATE && kept_but(&space, 0));
-        }
+    for (count = 0; count < AHZ_S_WORDS; count++) expect_no_state(words, count);
+}
+
+/* The 21 words that version 1 had, by themselves and at the start of a longer record; and the words of this version under that format. */
+static void version_1(void) {
+    unsigned n;
+    for (n = 0; n < 100; n++) {
+        PaperState state = any_state();
+        uint64_t words[AHZ_S_WORDS], old[AHZ_S_WORDS + 1];
+        paper_words(&state, words);
+        EXPECT(ahz_latent_test(words, AHZ_S_WORDS) != AHZ_R_STATE);
+        words[0] = 0x41485A01;
+        memcpy(old, words, sizeof words);
+        memmove(old + 3, old + 4, 18 * 8); /* all that stands behind the use */
+        old[21] = old[22] = 0;
+        expect_no_state(words, 22);
+        expect_no_state(old, 21);
+        expect_no_state(old, 22);
+        expect_no_state(old, 23);
     }
 }
 
-/* The paper's edges, as it writes them: a rule, H, then numbers with their verdicts, order and rogue at the end. */
+/* A fresh state of that setup; its full ticks are 10. */
+static void begin(uint64_t *words, unsigned rule, unsigned use, uint16_t history) {
+    EXPECT(ahz_fresh_v2((uint8_t)rule, AHZ_NOT_TAKEN, (uint8_t)use, history, 100, 100, 2, 1, words, AHZ_S_WORDS) == AHZ_DONE);
+}
+
+/* The paper's edges, as it writes them: a rule, H, then numbers with their verdicts, order and rogue at the end. Both uses agree. */
 static void edges(void) {
     static const struct {
         uint8_t rule;
@@ -327,14 +373,15 @@ static void edges(void) {
         {0, 64, {0, 32768}, 2, "pd", 0, 1},  {1, 8, {5, 6, 5}, 3, "ppp", 1, 0},        {1, 8, {5, 5}, 2, "pd", 0, 0},
     };
     size_t i, k;
-    for (i = 0; i < COUNT(cases); i++) {
+    for (i = 0; i < 2 * COUNT(cases); i++) {
+        const size_t c = i / 2;
         uint64_t words[AHZ_S_WORDS];
-        EXPECT(ahz_fresh(cases[i].rule, 0, cases[i].history, 100, 100, 2, 1, words, AHZ_S_WORDS) == AHZ_DONE);
-        for (k = 0; k < cases[i].count; k++) {
-            const int passes = cases[i].verdicts[k] == 'p';
-            EXPECT(ahz_numbered(words, AHZ_S_WORDS, cases[i].numbers[k]) == (passes ? AHZ_PASS : AHZ_DISCARD));
+        begin(words, cases[c].rule, i % 2, cases[c].history);
+        for (k = 0; k < cases[c].count; k++) {
+            const int passes = cases[c].verdicts[k] == 'p';
+            EXPECT(ahz_numbered(words, AHZ_S_WORDS, cases[c].numbers[k]) == (passes ? AHZ_PASS : AHZ_DISCARD));
         }
-        EXPECT(words[AHZ_S_ORDER] == cases[i].order && words[AHZ_S_ROGUE] == cases[i].rogue);
+        EXPECT(words[AHZ_S_ORDER] == cases[c].order && words[AHZ_S_ROGUE] == cases[c].rogue);
     }
 }
 
@@ -373,7 +420,7 @@ static void slides(void) {
     for (i = 0; i < COUNT(cases); i++) {
         const uint16_t d = cases[i].d, number = (uint16_t)(d - 1);
         uint64_t words[AHZ_S_WORDS], expected[AHZ_S_WORDS];
-        EXPECT(ahz_fresh(AHZ_RULE_VECTOR, 0, cases[i].history, 100, 100, 2, 1, words, AHZ_S_WORDS) == AHZ_DONE);
+        begin(words, AHZ_RULE_VECTOR, AHZ_USE_SEQUENCE, cases[i].history);
         words[AHZ_S_NEWEST] = 65535;
         words[AHZ_S_MARKS] = cases[i].marks;
         words[AHZ_S_TAKE_ANY] = 0;
@@ -390,6 +437,90 @@ static void slides(void) {
     }
 }
 
+/* ---- The timer in both uses, worked out by hand: what each kind of discarded packet does to it, and the stuck sender ---- */
+
+static void expect_left(uint64_t *words, uint8_t kind, uint16_t number, uint8_t answer, uint64_t left) {
+    EXPECT(expect_event(words, kind, number) == answer && words[AHZ_S_LEFT] == left);
+}
+
+/* After 8 and 10 and three ticks of ten; then a packet that is discarded, and at last one that passes. */
+static void discards(void) {
+    static const struct {
+        uint8_t rule, kind;
+        uint16_t number;
+        uint64_t rogue, tagless;
+    } packets[] = {
+        {AHZ_RULE_VECTOR, 1, 10, 0, 0},    /* duplicates: of the newest, and of one further back */
+        {AHZ_RULE_VECTOR, 1, 8, 0, 0},
+        {AHZ_RULE_VECTOR, 1, 14, 1, 0},    /* rogues: above, below, and as far away as can be */
+        {AHZ_RULE_VECTOR, 1, 6, 1, 0},
+        {AHZ_RULE_VECTOR, 1, 32778, 1, 0},
+        {AHZ_RULE_VECTOR, 2, 0, 0, 1},     /* without a number, and not taken */
+        {AHZ_RULE_MATCH, 1, 10, 0, 0},
+        {AHZ_RULE_MATCH, 2, 0, 0, 1},
+    };
+    unsigned i, use;
+    for (i = 0; i < COUNT(packets); i++) {
+        for (use = 0; use < 2; use++) {
+            const uint64_t left = use == AHZ_USE_INDIVIDUAL ? 10 : 7;
+            uint64_t words[AHZ_S_WORDS];
+            begin(words, packets[i].rule, use, 4);
+            expect_left(words, 1, 8, AHZ_PASS, 10);
+            expect_left(words, 1, 10, AHZ_PASS, 10);
+            expect_left(words, 3, 0, AHZ_TICK, 9);
+            expect_left(words, 3, 0, AHZ_TICK, 8);
+            expect_left(words, 3, 0, AHZ_TICK, 7);
+            expect_left(words, packets[i].kind, packets[i].number, AHZ_DISCARD, left);
+            EXPECT(words[AHZ_S_DISCARDED] == 1 && words[AHZ_S_ROGUE] == packets[i].rogue && words[AHZ_S_TAGLESS] == packets[i].tagless);
+            expect_left(words, 3, 0, AHZ_TICK, left - 1);
+            expect_left(words, 1, 11, AHZ_PASS, 10);
+        }
+    }
+}
+
+/* A packet without a number at a state that takes any, and ten ticks: in individual use the last of them is a timeout, a reset that is
+ * counted, and in sequence use the timer stands. Either way the state takes any after it. */
+static void before_any_number(void) {
+    unsigned rule, use, tick;
+    for (rule = 0; rule < 2; rule++) {
+        for (use = 0; use < 2; use++) {
+            const uint64_t full = use == AHZ_USE_INDIVIDUAL ? 10 : 0;
+            uint64_t words[AHZ_S_WORDS], fresh[AHZ_S_WORDS];
+            begin(words, rule, use, 4);
+            memcpy(fresh, words, sizeof fresh);
+            expect_left(words, 2, 0, AHZ_DISCARD, full);
+            EXPECT(words[AHZ_S_TAKE_ANY] == 1 && words[AHZ_S_NEWEST] == 65535 && words[AHZ_S_MARKS] == 0);
+            for (tick = 1; tick <= 9; tick++) expect_left(words, 3, 0, AHZ_TICK, full == 0 ? 0 : full - tick);
+            expect_left(words, 3, 0, full == 0 ? AHZ_TICK : AHZ_RESET, 0);
+            fresh[AHZ_S_DISCARDED] = fresh[AHZ_S_TAGLESS] = 1;
+            fresh[AHZ_S_RESETS] = full == 0 ? 0 : 1;
+            EXPECT(memcmp(words, fresh, sizeof words) == 0);
+            expect_left(words, 2, 0, AHZ_DISCARD, full);
+            expect_left(words, 1, 40000, AHZ_PASS, 10);
+        }
+    }
+}
+
+/* One number again and again, each after six ticks of ten: in sequence use the timer runs out under every second one, which passes. In
+ * individual use it never does. */
+static void stuck_sender(void) {
+    unsigned rule, use, turn, tick;
+    for (rule = 0; rule < 2; rule++) {
+        for (use = 0; use < 2; use++) {
+            const uint64_t out = use == AHZ_USE_SEQUENCE ? 30 : 0;
+            uint64_t words[AHZ_S_WORDS];
+            begin(words, rule, use, 4);
+            expect_left(words, 1, 10, AHZ_PASS, 10);
+            for (turn = 1; turn <= 60; turn++) {
+                const int passes = use == AHZ_USE_SEQUENCE && turn % 2 == 0;
+                for (tick = 1; tick <= 6; tick++) EXPECT(expect_event(words, 3, 0) == (passes && tick == 4 ? AHZ_RESET : AHZ_TICK));
+                EXPECT(expect_event(words, 1, 10) == (passes ? AHZ_PASS : AHZ_DISCARD));
+            }
+            EXPECT(words[AHZ_S_RESETS] == out && words[AHZ_S_PASSED] == 1 + out && words[AHZ_S_DISCARDED] == 60 - out);
+        }
+    }
+}
+
 /* ---- What the typed forms read of a state, and of an answer ---- */
 
 static void typed(void) {
@@ -403,14 +534,14 @@ static void typed(void) {
         paper_words(&state, words.words);
         setup = ahz_state_setup(&words);
         counters = ahz_state_counters(&words);
-        EXPECT(setup.rule == state.setup.rule && setup.taken == state.setup.taken && setup.history == state.setup.history);
-        EXPECT(setup.timeout.ms == state.setup.ms && setup.rate.per_second == state.setup.rate);
+        EXPECT(setup.rule == state.setup.rule && setup.taken == state.setup.taken && setup.use == state.setup.use);
+        EXPECT(setup.history == state.setup.history && setup.timeout.ms == state.setup.ms && setup.rate.per_second == state.setup.rate);
         EXPECT(setup.paths == state.setup.paths && setup.difference == state.setup.difference);
         EXPECT(counters.passed == state.passed && counters.discarded == state.discarded && counters.order == state.order);
         EXPECT(counters.rogue == state.rogue && counters.lost == state.lost && counters.tagless == state.tagless);
         EXPECT(counters.resets == state.resets && counters.latent_resets == state.latent_resets);
         EXPECT(ahz_state_ticks_left(&words).ticks == state.left && ahz_state_base(&words) == state.base);
-        EXPECT(ahz_state_marks(&words) == words.words[9]);
+        EXPECT(ahz_state_marks(&words) == words.words[AHZ_S_MARKS]);
         EXPECT(ahz_state_newest(&words, &newest) == (state.take_any == 0));
         EXPECT(newest == (state.take_any == 0 ? state.newest : 0x5A5A));
     }
@@ -427,10 +558,11 @@ static void answers(void) {
         }
     }
     EXPECT(strcmp(ahz_refusal_sentence(AHZ_DONE), "no refusal") == 0 && strcmp(ahz_refusal_sentence(28), "no refusal") == 0);
-    EXPECT(strcmp(ahz_refusal_sentence(AHZ_R_TAKEN), "taken flag not 0 or 1") == 0);
+    EXPECT(strcmp(ahz_refusal_sentence(AHZ_R_TAKEN_OR_USE), "taken flag or use not 0 or 1") == 0);
 }
 
 int main(void) {
-    static void (*const parts[])(void) = {edges, slides, numbering, ticks, setups, runs, single_events, unsound, shorter, typed, answers};
+    static void (*const parts[])(void) = {edges, slides, discards, before_any_number, stuck_sender, numbering, ticks, setups, setup_order,
+                                          runs, single_events, unsound, shorter, version_1, typed, answers};
     return run_tests("tests/c/states.c", parts, COUNT(parts));
 }

@@ -13,7 +13,7 @@ static void expect_output(size_t octets, size_t room) {
     const uint8_t *lent = lend(&first, tape, octets);
     uint8_t *out = lend(&second, NULL, room);
     size_t *length = (size_t *)lend_aligned(&third, NULL, sizeof lines_octets);
-    EXPECT(ahz_tape(lent, octets, out, room, length) == answer);
+    EXPECT(ahz_tape_v2(lent, octets, out, room, length) == answer);
     EXPECT(kept_but(&first, 0) && holds(&second, lines, answer == AHZ_DONE ? lines_octets : 0));
     EXPECT(holds(&third, &lines_octets, answer == AHZ_DONE ? sizeof lines_octets : 0));
 }
@@ -31,46 +31,61 @@ static int expected_is(const char *expected) {
     return strcmp(lines, expected) == 0;
 }
 
-#define WORKED 0x0F, 0, 0, 0, 4, 0, 0, 0, 100, 0, 100, 2, 0, 0, 0, 1
-#define ONE_TICK 0x0F, 1, 1, 0, 2, 0, 0, 0, 1, 0, 1, 8, 0, 0, 0, 0
+#define WORKED 0x0F, 0, 0, 0, 0, 4, 0, 0, 0, 100, 0, 100, 2, 0, 0, 0, 1
+#define ONE_TICK 0x0F, 1, 1, 0, 0, 2, 0, 0, 0, 1, 0, 1, 8, 0, 0, 0, 0
+#define THREE_TICKS(use) 0x0F, 0, 0, use, 0, 4, 0, 0, 0, 3, 0x03, 0xE8, 2, 0, 0, 0, 1
+enum { SETUP = 17 }; /* octets of one, its kind among them */
 
 /* Tapes with their outputs written out: the paper's own, every line there is, and each fault. */
 static void written(void) {
     static const struct {
-        uint8_t octets[34];
+        uint8_t octets[35];
         size_t count;
         const char *lines;
     } tapes[] = {
-        {{WORKED, 1, 0, 10, 1, 0, 10, 1, 0, 12, 1, 0, 11, 1, 0, 20, 6}, 32,
+        {{WORKED, 1, 0, 10, 1, 0, 10, 1, 0, 12, 1, 0, 11, 1, 0, 20, 6}, SETUP + 16,
          "ok\npass\ndiscard\npass\npass\ndiscard\nlatent ok\n"
          "passed=3 discarded=2 order=2 rogue=1 lost=2 tagless=0 resets=0 latent-resets=0\n"},
-        {{ONE_TICK, 2, 3, 3, 1, 1, 2, 1, 1, 2, 6, 5, 6, 4}, 29,
+        {{ONE_TICK, 2, 3, 3, 1, 1, 2, 1, 1, 2, 6, 5, 6, 4}, SETUP + 13,
          "ok\npass\nreset\ntick\npass\ndiscard\nlatent error\nlatent reset\nlatent ok\nreset\n"
          "passed=2 discarded=1 order=0 rogue=0 lost=0 tagless=1 resets=2 latent-resets=1\n"},
-        {{WORKED}, 16, "ok\npassed=0 discarded=0 order=0 rogue=0 lost=0 tagless=0 resets=0 latent-resets=0\n"},
+        {{THREE_TICKS(0), 1, 0, 7, 3, 3, 1, 0, 7, 3, 3, 1, 0, 7}, SETUP + 13, /* a stuck sender: the timer runs out under it */
+         "ok\npass\ntick\ntick\ndiscard\nreset\ntick\npass\n"
+         "passed=2 discarded=1 order=0 rogue=0 lost=0 tagless=0 resets=1 latent-resets=0\n"},
+        {{THREE_TICKS(1), 1, 0, 7, 3, 3, 1, 0, 7, 3, 3, 1, 0, 7}, SETUP + 13, /* and in individual use it does not */
+         "ok\npass\ntick\ntick\ndiscard\ntick\ntick\ndiscard\n"
+         "passed=1 discarded=2 order=0 rogue=0 lost=0 tagless=0 resets=0 latent-resets=0\n"},
+        {{THREE_TICKS(0), 2, 3, 3, 3}, SETUP + 4, /* no number yet: the timer stands */
+         "ok\ndiscard\ntick\ntick\ntick\n"
+         "passed=0 discarded=1 order=0 rogue=0 lost=0 tagless=1 resets=0 latent-resets=0\n"},
+        {{THREE_TICKS(1), 2, 3, 3, 3}, SETUP + 4, /* and in individual use it runs */
+         "ok\ndiscard\ntick\ntick\nreset\n"
+         "passed=0 discarded=1 order=0 rogue=0 lost=0 tagless=1 resets=1 latent-resets=0\n"},
+        {{WORKED}, SETUP, "ok\npassed=0 discarded=0 order=0 rogue=0 lost=0 tagless=0 resets=0 latent-resets=0\n"},
         {{0}, 0, "fault 25\n"},
         {{3}, 1, "fault 25\n"},
         {{1, 0, 10}, 3, "fault 25\n"},
         {{1, 0}, 2, "fault 24\n"},
         {{0x0F}, 1, "fault 24\n"},
-        {{WORKED}, 15, "fault 24\n"},
+        {{WORKED}, SETUP - 1, "fault 24\n"},
         {{0}, 1, "fault 23\n"},
         {{7}, 1, "fault 23\n"},
         {{0x0E}, 1, "fault 23\n"},
         {{0xFF}, 1, "fault 23\n"},
-        {{WORKED, 7}, 17, "ok\nfault 23\n"},
-        {{WORKED, 1, 0}, 18, "ok\nfault 24\n"},
-        {{WORKED, 1}, 17, "ok\nfault 24\n"},
-        {{WORKED, 0x0F, 0, 0}, 19, "ok\nfault 24\n"},
-        {{WORKED, 3, WORKED}, 33, "ok\ntick\nfault 25\n"},
-        {{WORKED, 0x0F, 9, 9, 0, 0, 0, 0, 0, 0, 0, 0, 0, 0, 0, 0, 0}, 32, "ok\nfault 25\n"},
-        {{0x0F, 2, 2, 0, 1, 0, 0, 0, 0, 0, 0, 1, 0, 0, 0, 0}, 16, "fault 15\n"},
-        {{0x0F, 1, 2, 0, 1, 0, 0, 0, 0, 0, 0, 1, 0, 0, 0, 0}, 16, "fault 27\n"},
-        {{0x0F, 1, 1, 0, 65, 0, 0, 0, 0, 0, 0, 1, 0, 0, 0, 0}, 16, "fault 16\n"},
-        {{0x0F, 1, 1, 0, 64, 0, 0x36, 0xEE, 0x81, 0, 0, 1, 0, 0, 0, 0}, 16, "fault 17\n"},
-        {{0x0F, 1, 1, 0, 64, 0, 0x36, 0xEE, 0x80, 0x27, 0x11, 1, 0, 0, 0, 0}, 16, "fault 18\n"},
-        {{0x0F, 1, 1, 0, 64, 0, 0x36, 0xEE, 0x80, 0x27, 0x10, 9, 0, 0, 0, 0}, 16, "fault 19\n"},
-        {{0x0F, 1, 1, 0, 64, 0, 0x36, 0xEE, 0x80, 0x27, 0x10, 8, 0xFF, 0xFF, 0xFF, 0xFF}, 16,
+        {{WORKED, 7}, SETUP + 1, "ok\nfault 23\n"},
+        {{WORKED, 1, 0}, SETUP + 2, "ok\nfault 24\n"},
+        {{WORKED, 1}, SETUP + 1, "ok\nfault 24\n"},
+        {{WORKED, 0x0F, 0, 0}, SETUP + 3, "ok\nfault 24\n"},
+        {{WORKED, 3, WORKED}, SETUP + 1 + SETUP, "ok\ntick\nfault 25\n"},
+        {{WORKED, 0x0F, 9, 9, 9, 0, 0, 0, 0, 0, 0, 0, 0, 0, 0, 0, 0, 0}, SETUP + SETUP, "ok\nfault 25\n"},
+        {{0x0F, 2, 2, 2, 0, 1, 0, 0, 0, 0, 0, 0, 1, 0, 0, 0, 0}, SETUP, "fault 15\n"},
+        {{0x0F, 1, 2, 1, 0, 1, 0, 0, 0, 0, 0, 0, 1, 0, 0, 0, 0}, SETUP, "fault 27\n"},
+        {{0x0F, 1, 1, 2, 0, 1, 0, 0, 0, 0, 0, 0, 1, 0, 0, 0, 0}, SETUP, "fault 27\n"},
+        {{0x0F, 1, 1, 1, 0, 65, 0, 0, 0, 0, 0, 0, 1, 0, 0, 0, 0}, SETUP, "fault 16\n"},
+        {{0x0F, 1, 1, 1, 0, 64, 0, 0x36, 0xEE, 0x81, 0, 0, 1, 0, 0, 0, 0}, SETUP, "fault 17\n"},
+        {{0x0F, 1, 1, 1, 0, 64, 0, 0x36, 0xEE, 0x80, 0x27, 0x11, 1, 0, 0, 0, 0}, SETUP, "fault 18\n"},
+        {{0x0F, 1, 1, 1, 0, 64, 0, 0x36, 0xEE, 0x80, 0x27, 0x10, 9, 0, 0, 0, 0}, SETUP, "fault 19\n"},
+        {{0x0F, 1, 1, 1, 0, 64, 0, 0x36, 0xEE, 0x80, 0x27, 0x10, 8, 0xFF, 0xFF, 0xFF, 0xFF}, SETUP,
          "ok\npassed=0 discarded=0 order=0 rogue=0 lost=0 tagless=0 resets=0 latent-resets=0\n"},
     };
     size_t i, octets;
@@ -82,17 +97,39 @@ static void written(void) {
     }
 }
 
+/* Tapes as version 1 had them, a setup of 15 octets: whatever its history length and timeout, what was good is a fault. */
+static void version_1(void) {
+    static const uint8_t timeouts[][4] = {{0, 0, 0, 1}, {0, 0x36, 0xEE, 0x80}};
+    static const uint8_t old[] = {0x0F, 1, 0, 0, 0, 0, 0, 0, 0, 0x03, 0xE8, 2, 0, 0, 0, 1};
+    unsigned history, kind, i;
+    for (i = 0; i < COUNT(timeouts); i++) {
+        for (history = 2; history <= 64; history++) {
+            memcpy(tape, old, sizeof old);
+            tape[4] = (uint8_t)history;
+            memcpy(tape + 5, timeouts[i], 4);
+            expect_tape(sizeof old);
+            EXPECT(expected_is("fault 24\n"));
+            for (kind = 1; kind <= 6; kind++) {
+                tape[sizeof old] = (uint8_t)kind;
+                tape[sizeof old + 1] = tape[sizeof old + 2] = 0;
+                expect_tape(sizeof old + (kind == 1 ? 3 : 1));
+                EXPECT(expected_is("fault 16\n"));
+            }
+        }
+    }
+}
+
 /* Setups about the edges of each number, each octet of them in its place. */
 static void setups(void) {
     static const uint8_t good[] = {WORKED};
     static const uint8_t octets[] = {0, 1, 2, 3, 8, 9, 64, 65, 0x10, 0x11, 0x27, 0x28, 0x36, 0x37, 0x80, 0x81, 0xEE, 0xEF, 0xFF};
     size_t place, i;
-    for (place = 1; place < 16; place++) {
+    for (place = 1; place < SETUP; place++) {
         for (i = 0; i < COUNT(octets); i++) {
             memcpy(tape, good, sizeof good);
             tape[place] = octets[i];
-            memcpy(tape + 16, "\1\0\12\1\0\12\1\0\15\6\2\3\3\1\0\14\6", 17);
-            expect_tape(16 + 17);
+            memcpy(tape + SETUP, "\1\0\12\1\0\12\1\0\15\6\2\3\3\1\0\14\6", 17);
+            expect_tape(SETUP + 17);
         }
     }
 }
@@ -112,12 +149,13 @@ static void any_events(void) {
         memcpy(tape, worked, sizeof worked);
         tape[1] = below(2);
         tape[2] = below(2);
-        tape[4] = histories[below(3)];
-        tape[8] = (uint8_t)(1 + below(9)); /* ms, and a rate of 356: from one tick to four */
-        tape[9] = 1;
-        tape[11] = (uint8_t)(2 + below(7));
-        tape[15] = below(5);
-        for (at = sizeof worked; at + 3 < octets;) {
+        tape[3] = below(2);
+        tape[5] = histories[below(3)];
+        tape[9] = (uint8_t)(1 + below(9)); /* ms, and a rate of 356: from one tick to four */
+        tape[10] = 1;
+        tape[12] = (uint8_t)(2 + below(7));
+        tape[16] = below(5);
+        for (at = SETUP; at + 3 < octets;) {
             tape[at] = (uint8_t)(below(4) < 3 ? 1 : 2 + below(5));
             if (tape[at++] != 1) continue;
             number += roll() % 7 - 2;
@@ -126,7 +164,7 @@ static void any_events(void) {
         }
         expect_tape(at);
         if (n % 3 == 0) {
-            tape[16 + roll() % (at - 16)] = (uint8_t)(7 + below(16));
+            tape[SETUP + roll() % (at - SETUP)] = (uint8_t)(7 + below(16));
             expect_tape(at);
         }
     }
@@ -134,18 +172,21 @@ static void any_events(void) {
 
 /* The longest tapes: of one event again and again, so that each counter has its many digits, and the tapes that are too long. */
 static void longest(void) {
-    static const uint8_t good[][16] = {{WORKED}, {ONE_TICK}};
-    static const size_t too_long[] = {4097, 4098, 65536, 65536 + 16, 65536 + 4096};
+    static const uint8_t good[][SETUP] = {{WORKED}, {ONE_TICK}, {THREE_TICKS(1)}};
+    static const size_t too_long[] = {4097, 4098, 65536, 65536 + SETUP, 65536 + 4096};
     uint8_t kind;
     size_t i, at;
     for (i = 0; i < COUNT(good); i++) {
         for (kind = 1; kind <= 6; kind++) {
-            for (at = 0; at < sizeof tape; at++) tape[at] = kind == 1 ? (uint8_t)(at % 3 == 1 ? 1 : at % 3 == 2 ? at / 768 : at / 3) : kind;
-            memcpy(tape, good[i], 16);
+            for (at = 0; at < sizeof tape; at++) {
+                tape[at] = kind != 1 || at % 3 == SETUP % 3 ? kind : (uint8_t)(at % 3 == (SETUP + 1) % 3 ? at / 768 : at / 3);
+            }
+            memcpy(tape, good[i], SETUP);
             expect_tape(4096);
             expect_tape(4095);
+            expect_tape(4094); /* whole packets of 3 octets */
         }
-        for (at = 16; at + 1 < sizeof tape; at += 2) { /* packets that pass, and ticks: a reset after each under the second setup */
+        for (at = SETUP; at + 1 < sizeof tape; at += 2) { /* packets that pass, and ticks: a reset after each under the second setup */
             tape[at] = 2;
             tape[at + 1] = 3;
         }
@@ -163,6 +204,6 @@ static void longest(void) {
 }
 
 int main(void) {
-    static void (*const parts[])(void) = {written, setups, any_events, longest};
+    static void (*const parts[])(void) = {written, version_1, setups, any_events, longest};
     return run_tests("tests/c/tape.c", parts, COUNT(parts));
 }

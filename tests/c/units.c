@@ -11,10 +11,10 @@
 
 static const uint8_t payload[] = {AHZ_CARD_RAW_CODE, 0x00, 0x0A};
 
-static const ahz_setup_t constant = {AHZ_RULE_VECTOR, AHZ_NOT_TAKEN, 8, AHZ_MS(100), AHZ_PER_SECOND(100), 2, 1};
+static const ahz_setup_t constant = {AHZ_RULE_VECTOR, AHZ_NOT_TAKEN, AHZ_USE_SEQUENCE, 8, AHZ_MS(100), AHZ_PER_SECOND(100), 2, 1};
 
 int main(void) {
-    ahz_setup_t setup = {AHZ_RULE_VECTOR, AHZ_NOT_TAKEN, 8, ahz_milliseconds(100), ahz_rate(100), 2, 1};
+    ahz_setup_t setup = {AHZ_RULE_VECTOR, AHZ_NOT_TAKEN, AHZ_USE_SEQUENCE, 8, ahz_milliseconds(100), ahz_rate(100), 2, 1};
     ahz_ticks_t ticks = ahz_full_ticks(setup.timeout, setup.rate);
     ahz_calibration_t calibration = {0.25, 0.5};
     ahz_state_t state;
@@ -37,6 +37,8 @@ int main(void) {
     ticks = (ahz_ticks_t){100};
     ticks.ticks += setup.timeout.ms;
     right = right && ticks.ticks == 200;
+    setup = (ahz_setup_t){.history = 8, .timeout = setup.timeout, .rate = setup.rate, .paths = 2}; /* in sequence use, as version 1 */
+    right = right && setup.use == AHZ_USE_SEQUENCE && ahz_setup_check(setup) == AHZ_DONE;
 #endif
 
 #if MIXUP == 1 /* ticks as milliseconds */
@@ -75,14 +77,14 @@ int main(void) {
 #if MIXUP == 12 /* units where the proved call asks for bare numbers */
     right = right && ahz_ticks(setup.timeout, setup.rate) == 10;
 #endif
-#if MIXUP == 13 /* a setup as seven numbers in a row */
-    answer = ahz_state_fresh(&state, 0, 0, 8, 100, 100, 2, 1);
+#if MIXUP == 13 /* a setup as eight numbers in a row */
+    answer = ahz_state_fresh(&state, 0, 0, 0, 8, 100, 100, 2, 1);
 #endif
 #if MIXUP == 14 /* a rate and milliseconds changed about in a setup's list */
-    const ahz_setup_t row = {0, 0, 8, ahz_rate(100), ahz_milliseconds(100), 2, 1};
+    const ahz_setup_t row = {0, 0, 0, 8, ahz_rate(100), ahz_milliseconds(100), 2, 1};
 #endif
 #if MIXUP == 15 /* warned: bare numbers in a setup's list */
-    const ahz_setup_t row = {0, 0, 8, 100, 100, 2, 1}; right = right && row.paths == 2;
+    const ahz_setup_t row = {0, 0, 0, 8, 100, 100, 2, 1}; right = right && row.paths == 2;
 #endif
 #if MIXUP == 16 /* a raw code as millivolts */
     card.millivolts = card.raw_code;
@@ -149,6 +151,15 @@ int main(void) {
 #endif
 #if MIXUP == 37 /* in C++: a rate that its field cannot hold */
     setup.rate = ahz_rate_t{65536};
+#endif
+#if MIXUP == 38 /* a setup's list without a use, as version 1 had it */
+    const ahz_setup_t row = {0, 0, 8, ahz_milliseconds(100), ahz_rate(100), 2, 1};
+#endif
+#if MIXUP == 39 /* warned: the same, with the braces of AHZ_MS */
+    const ahz_setup_t row = {0, 0, 8, {100}, {100}, 2, 1}; right = right && row.paths == 2;
+#endif
+#if MIXUP == 40 /* warned: a setup checked by the call of version 1 */
+    answer = ahz_check_setup(0, 0, 8, 100, 100, 2, 1);
 #endif
     right = right && answer != AHZ_DONE && number == 0;
     if (!right) printf("tests/c/units.c: without a mistake, a wrong answer\n");

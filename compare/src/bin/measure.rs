@@ -11,7 +11,7 @@
 
 use ahozurime as ours;
 use compare::{plain, words};
-use ours::recovery::{Rule, Verdict};
+use ours::recovery::{Rule, Usage, Verdict};
 use std::hint::black_box;
 use std::process::Command;
 use std::time::{Duration, Instant};
@@ -161,14 +161,21 @@ fn table(entries: usize) -> Vec<u8> {
     (0..entries).flat_map(entry).collect()
 }
 
+/// What the setups of the states differ in: rule, use and history length.
+type Kind = (Rule, Usage, u16);
+
+const VECTOR: Kind = (Rule::Vector, Usage::Sequence, 64);
+const MATCH: Kind = (Rule::Match, Usage::Sequence, 64);
+const INDIVIDUAL: Kind = (Rule::Vector, Usage::Individual, 64);
+
 /// Both states of one setup, after one packet, which has the number 10.
 fn begun(
-    rule: Rule,
-    history: u16,
+    (rule, usage, history): Kind,
 ) -> (Lined<ours::recovery::State>, Lined<plain::recovery::State>) {
     let setup = ours::recovery::Setup {
         rule,
         take_tagless: false,
+        usage,
         history,
         timeout: ours::Milliseconds(3_600_000),
         rate: ours::TicksPerSecond(10_000),
@@ -177,8 +184,15 @@ fn begun(
     };
     let mut ours = ours::recovery::State::fresh(&setup).expect("a setup in range");
     let mut plain = plain::recovery::State::fresh(plain::recovery::Setup {
-        rule: if rule == Rule::Vector { plain::recovery::VECTOR } else { plain::recovery::MATCH },
+        rule: match rule {
+            Rule::Vector => plain::recovery::VECTOR,
+            Rule::Match => plain::recovery::MATCH,
+        },
         taken: setup.take_tagless.into(),
+        usage: match usage {
+            Usage::Sequence => plain::recovery::SEQUENCE,
+            Usage::Individual => plain::recovery::INDIVIDUAL,
+        },
         history,
         timeout: plain::recovery::Milliseconds(setup.timeout.0),
         ticks_per_second: setup.rate.0,
@@ -255,8 +269,8 @@ fn lookups(figures: &mut Vec<Figure>) {
 
 /// Packets on one state: the first number lies so far from 10, and then each so far from the one
 /// before, the two distances in turn.
-fn step(what: &str, rule: Rule, history: u16, first: u16, far: [u16; 2]) -> Figure {
-    let (mut ours, mut plain) = begun(rule, history);
+fn step(what: &str, kind: Kind, first: u16, far: [u16; 2]) -> Figure {
+    let (mut ours, mut plain) = begun(kind);
     let (mut a, mut b) = (10 + first, 10 + first);
     let (mut i, mut j) = (0, 0);
     both(
@@ -280,22 +294,33 @@ fn step(what: &str, rule: Rule, history: u16, first: u16, far: [u16; 2]) -> Figu
     )
 }
 
-fn steps(figures: &mut Vec<Figure>) {
-    let (vector, back) = (Rule::Vector, 1u16.wrapping_neg());
-    figures.push(step("step in order, H 64", vector, 64, 1, [1, 1]));
-    figures.push(step("step, 2 ahead and 1 late in turn, H 64", vector, 64, 2, [back, 3]));
-    figures.push(step("step duplicate, H 64", vector, 64, 0, [0, 0]));
-    figures.push(step("step rogue, H 64", vector, 64, 20_000, [0, 0]));
-    figures.push(step("step with a slide of 3, H 4", vector, 4, 3, [3, 3]));
-    figures.push(step("step with a slide of 63, H 64", vector, 64, 63, [63, 63]));
-    figures.push(step("step in order, match", Rule::Match, 64, 1, [1, 1]));
-    let (mut ours, mut plain) = begun(vector, 64);
+/// Packets without a number on one state, which takes none.
+fn tagless(what: &str, kind: Kind) -> Figure {
+    let (mut ours, mut plain) = begun(kind);
     let none = black_box(None);
-    figures.push(both(
-        "step without a number",
+    both(
+        what,
         |times| repeat(times, || black_box(&mut ours.0).hear(black_box(none))),
         |times| repeat(times, || called::packet(black_box(&mut plain.0), black_box(none))),
-    ));
+    )
+}
+
+fn steps(figures: &mut Vec<Figure>) {
+    let back = 1u16.wrapping_neg();
+    figures.push(step("step in order, H 64", VECTOR, 1, [1, 1]));
+    figures.push(step("step, 2 ahead and 1 late in turn, H 64", VECTOR, 2, [back, 3]));
+    figures.push(step("step duplicate, H 64", VECTOR, 0, [0, 0]));
+    figures.push(step("step rogue, H 64", VECTOR, 20_000, [0, 0]));
+    let short = (Rule::Vector, Usage::Sequence, 4);
+    figures.push(step("step with a slide of 3, H 4", short, 3, [3, 3]));
+    figures.push(step("step with a slide of 63, H 64", VECTOR, 63, [63, 63]));
+    figures.push(step("step in order, match", MATCH, 1, [1, 1]));
+    figures.push(tagless("step without a number", VECTOR));
+    // What is discarded restarts the timer here.
+    figures.push(step("step duplicate, H 64, individual", INDIVIDUAL, 0, [0, 0]));
+    figures.push(step("step rogue, H 64, individual", INDIVIDUAL, 20_000, [0, 0]));
+    figures.push(tagless("step without a number, individual", INDIVIDUAL));
+    let (mut ours, mut plain) = begun(VECTOR);
     figures.push(both(
         "tick",
         |times| repeat(times, || black_box(&mut ours.0).tick()),
@@ -333,13 +358,14 @@ fn cards(figures: &mut Vec<Figure>) {
     }
 }
 
-/// A tape of 4,096 octets: a setup and packets in order.
+/// A tape of 4,096 octets: a setup, packets in order and two ticks.
 fn tape(figures: &mut Vec<Figure>) {
-    let mut tape = vec![0x0F, 0, 0, 0, 64, 0, 0, 0, 100, 0, 100, 2, 0, 0, 0, 1];
-    for number in 0..1_360u16 {
+    let mut tape = vec![0x0F, 0, 0, 0, 0, 64, 0, 0, 0, 100, 0, 100, 2, 0, 0, 0, 1];
+    for number in 0..1_359u16 {
         tape.push(1);
         tape.extend(number.to_be_bytes());
     }
+    tape.extend([3, 3]);
     let tape = &tape[..];
     let mut out = vec![0; ours::tape::OUTPUT];
     let mut other = out.clone();
@@ -356,7 +382,7 @@ fn receive(entries: usize) -> Figure {
     let table = table(entries);
     let table = &table[..];
     let frames: Vec<Vec<u8>> = (0..entries).map(|i| frame(64, i as u8, None, true)).collect();
-    let (ours, plain) = begun(Rule::Vector, 64);
+    let (ours, plain) = begun(VECTOR);
     let (mut ours, mut plain) = (vec![ours; entries], vec![plain; entries]);
     let (mut of_ours, mut of_plain) = (frames.clone(), frames);
     let (mut out, mut other) = (Lined([0; 1_522]), Lined([0; 1_522]));

@@ -23,7 +23,7 @@ fn body_length(kind: u8) -> Option<usize> {
     match kind {
         PACKET => Some(2),
         NO_NUMBER..=LATENT_TEST => Some(0),
-        SETUP => Some(15),
+        SETUP => Some(16),
         _ => None,
     }
 }
@@ -75,17 +75,18 @@ fn play(tape: &[u8], out: &mut Vec<u8>) -> Result<Counters, u8> {
     state.map(|state| state.counters).ok_or(25)
 }
 
-/// Rule 1, taken 1, H 2, ms 4, ticks 2, paths 1, difference 4.
+/// Rule 1, taken 1, use 1, H 2, ms 4, ticks 2, paths 1, difference 4.
 fn setup(body: &[u8]) -> Setup {
     let be32 = |at| u32::from_be_bytes([body[at], body[at + 1], body[at + 2], body[at + 3]]);
     Setup {
         rule: body[0],
         taken: body[1],
-        history: be16(body, 2),
-        timeout: Milliseconds(be32(4)),
-        ticks_per_second: be16(body, 8),
-        paths: body[10],
-        difference: be32(11),
+        usage: body[2],
+        history: be16(body, 3),
+        timeout: Milliseconds(be32(5)),
+        ticks_per_second: be16(body, 9),
+        paths: body[11],
+        difference: be32(12),
     }
 }
 

@@ -4,7 +4,7 @@ use Rattle.octets.specs.Checks.{verdict}
 use Rattle.frame.specs.Layout.{tag}
 use Rattle.marks.specs.Window.{mark, none, clearFrom, set, reach, moved, lostBy, slid, lostIn}
 use Rattle.setup.specs.Conversion.{fullTicks, ticksOf}
-use Rattle.setup.specs.Range.{setupChecks, checked, isVector}
+use Rattle.setup.specs.Range.{setupChecks, checked, isVector, isIndividual}
 use Rattle.rules.specs.Difference.{apart, signed, difference, outOfOrder}
 use Rattle.rules.specs.TakeAny.{firstMarks, first}
 use Rattle.rules.specs.Vector.{late, onward, byDifference, vector}
@@ -18,7 +18,7 @@ use Rattle.recovery.specs.Packets.{numbered, settled, heard, packetOf}
 use Rattle.edges.specs.Starred.{cases, Starred}
 
 pub starred : Starred
-unfolding cases tag mark none clearFrom set reach moved lostBy slid lostIn verdict fullTicks ticksOf setupChecks checked isVector apart
-    signed difference outOfOrder firstMarks first late onward byDifference vector match plus awaits sound freshState restarted byRule
-    numbered counted settled heard packetOf
+unfolding cases tag mark none clearFrom set reach moved lostBy slid lostIn verdict fullTicks ticksOf setupChecks checked isVector
+    isIndividual apart signed difference outOfOrder firstMarks first late onward byDifference vector match plus awaits sound freshState
+    restarted byRule numbered counted settled heard packetOf
 starred = refl

@@ -31,9 +31,9 @@ pub record Case : Type 0 where
   pub asked : Asked
   pub said : Answer
 
--- 100 ms at 100 ticks per second, two paths, difference 1
+-- sequence use, 100 ms at 100 ticks per second, two paths, difference 1
 abbrev pub setup : ℕ → ℕ → Setup
-setup rule history = setupOf rule 0 history 100 100 2 1
+setup rule history = setupOf rule 0 0 history 100 100 2 1
 
 abbrev pub verdicts : State → List ℕ → List Verdict
 verdicts s [] = []

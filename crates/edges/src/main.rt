@@ -28,9 +28,9 @@ fn say(verdict: Verdict) {
     ;
 }
 
-// A fresh state for the cases: 100 ms at 100 ticks per second, two paths, difference 1.
+// A fresh state for the cases: sequence use, 100 ms at 100 ticks per second, two paths, difference 1.
 fn begin(rule: u8, history: u16) -> Begun {
-    State::fresh(Setup::of(rule, 0, history, 100, 100, 2, 1))
+    State::fresh(Setup::of(rule, 0, 0, history, 100, 100, 2, 1))
 }
 
 // A title, what a fresh state answers to each number, and its counts of order and rogue after the last. Rule 0 is vector, and 1 match.

@@ -11,9 +11,9 @@ use Rattle.octets.specs.Checks.{Check, _⇒_, verdict, refusal}
 unfoldable pub known : ℕ → Bool
 known kind = (leb 1 kind && leb kind 6) || eqb kind 15
 
--- and the length of each kind's body
+-- and the length of each kind's body; by CR 2 "The tape's setup grows by one octet after taken .., so 16"
 unfoldable pub width : ℕ → ℕ
-width kind = cond (eqb kind 1) 2 (cond (eqb kind 15) 15 0)
+width kind = cond (eqb kind 1) 2 (cond (eqb kind 15) 16 0)
 
 -- "Per event: 23, 24, 25, then 15, 27, 16 to 19": "tape kind; event cut; setup missing or repeated", since a setup comes "first and only
 -- once"; the setup's own checks follow where it is handed in

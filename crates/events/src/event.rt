@@ -15,7 +15,7 @@ pub fn width(kind: u8) -> usize
     if kind == 1 {
         2
     } else if kind == 15 {
-        15
+        16
     } else {
         0
     }

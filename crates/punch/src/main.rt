@@ -1,9 +1,11 @@
 // Punches a bench tape: a readable text from standard input, one event a line, to the octets of a tape on standard output.
 //
-//     setup vector 0 4 100 100 2 1     rule, taken, H, ms, ticks per second, paths, difference; a rule may be a number
+//     setup vector 0 sequence 4 100 100 2 1     rule, taken, use, H, ms, ticks per second, paths, difference
 //     packet 10     none     tick     tick 30     reset     latent reset     latent test
-//     octets 0F 00                     octets as they are, for what is no event
+//     octets 0F 00                              octets as they are, for what is no event
 //
+// A rule is `vector` or `match`, and a use `sequence` or `individual`; either may be a number too, so that one that there is not can be
+// punched.
 // A line that begins with # and a blank line say nothing. What a line says wrong goes to standard error with its number, and then no tape
 // is written. Whether the events make sense together is the tape's to say, so that a tape with a fault can be punched too.
 mod words;

@@ -1,5 +1,4 @@
-// The text word by word. A word is held as its letters in one number, the first letter highest; the last eight tell any two words here
-// apart.
+// The text word by word. A word is held as its letters in two numbers, the first letter highest: its last eight, and those before them.
 ghost use Prim.Native.Nat.{_≤_};
 
 pub const NO_EVENT: u8 = 1;
@@ -42,8 +41,9 @@ pub struct Punch {
     // what the line's first word says, 0 before it, and how many words came after it
     pub event: u8,
     pub words: u64,
-    // the word that is being read: its letters, how many, and its number with whether it is one
+    // the word that is being read: its last eight letters, those before, how many, and its number with whether it is one
     pub key: u64,
+    pub before: u64,
     pub letters: u64,
     pub value: u64,
     pub number: bool,
@@ -57,6 +57,7 @@ fn at_line(line: u64, wrong: u8, length: usize) -> Punch {
         event: 0,
         words: 0,
         key: 0,
+        before: 0,
         letters: 0,
         value: 0,
         number: true,
@@ -161,11 +162,11 @@ fn push_octet(p: Punch, tape: &mut [u8]) -> Punch {
     wrong(p, NO_NUMBER)
 }
 
-// The octets of a setup's words: rule 1, taken 1, H 2, ms 4, ticks 2, paths 1, difference 4.
+// The octets of a setup's words: rule 1, taken 1, use 1, H 2, ms 4, ticks 2, paths 1, difference 4.
 fn setup_width(word: u64) -> u8 {
-    if (word == 4) | (word == 7) {
+    if (word == 5) | (word == 8) {
         4
-    } else if (word == 3) | (word == 5) {
+    } else if (word == 4) | (word == 6) {
         2
     } else {
         1
@@ -178,6 +179,13 @@ fn push_setup(p: Punch, tape: &mut [u8]) -> Punch {
         return push(p, 0, tape);
     }
     if (p.words == 1) & (p.key == 0x6D61746368) {
+        return push(p, 1, tape);
+    }
+    // "sequence" and "individual"
+    if (p.words == 3) & (p.before == 0) & (p.key == 0x73657175656E6365) {
+        return push(p, 0, tape);
+    }
+    if (p.words == 3) & (p.before == 0x696E) & (p.key == 0x646976696475616C) {
         return push(p, 1, tape);
     }
     push_number(p, setup_width(p.words), tape)
@@ -223,7 +231,7 @@ fn first_word(mut p: Punch, tape: &mut [u8]) -> Punch {
 
 fn most_words(event: u8) -> u64 {
     if event == SETUP {
-        7
+        8
     } else if (event == PACKET) | (event == TICK) | (event == LATENT) {
         1
     } else if event == OCTETS {
@@ -275,6 +283,7 @@ fn word(p: Punch, tape: &mut [u8]) -> Punch {
         next_word(p, tape)
     };
     q.key = 0;
+    q.before = 0;
     q.letters = 0;
     q.value = 0;
     q.number = true;
@@ -312,6 +321,7 @@ fn letter(mut p: Punch, octet: u8) -> Punch {
         p.event = COMMENT;
     }
     let n = octet as u64;
+    p.before = p.before % 72057594037927936 * 256 + p.key / 72057594037927936 % 256;
     p.key = p.key % 72057594037927936 * 256 + n;
     p.letters = std::num::wrapping_add_u64(p.letters, 1);
     p.number = p.number & (48 <= n) & (n <= 57);

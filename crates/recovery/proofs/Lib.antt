@@ -5,4 +5,5 @@ pub mod SoundKept
 pub mod FreshSound
 pub mod SpanCalls
 pub mod Places
+pub mod Repeats
 pub mod Unique

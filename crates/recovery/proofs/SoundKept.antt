@@ -8,17 +8,17 @@ use native.Mathlib.Nat.{le-refl}
 use native.Mathlib.Omega.{arith}
 use Rattle.octets.proofs.Bools.{either, both, and-true}
 use Rattle.setup.specs.declared.Setup.{Setup}
-use Rattle.setup.specs.Range.{checked, isVector, fullOf}
+use Rattle.setup.specs.Range.{checked, isVector, isIndividual, fullOf}
 use Rattle.setup.proofs.InRange.{in-range, full-positive}
 use Rattle.marks.specs.Window.{most, mark, clearFrom, none}
 use Rattle.marks.proofs.Moves.{none-from}
 use Rattle.counters.specs.declared.Counters.{Counters}
+use Rattle.recovery.specs.declared.Left.{Left}
 use Rattle.recovery.specs.declared.State.{State}
 use Rattle.recovery.specs.declared.Packet.{Packet}
 use Rattle.recovery.specs.declared.Packet.the-variants.{Numbered, Tagless}
 use Rattle.recovery.specs.declared.Timed.{Timed}
 use Rattle.rules.specs.declared.Effect.{Effect}
-use Rattle.rules.specs.Effects.{accepted, discarded}
 use Rattle.rules.specs.Vector.{vector}
 use Rattle.recovery.specs.Soundness.{awaits, sound}
 use Rattle.recovery.specs.Resets.{cleared, resetState}
@@ -71,22 +71,19 @@ module _ (s : State) (ok : Sound s) where
   abbrev After : Bool → ℕ → Effect → Type 0
   After takeAny tagless effect = sound (settled s takeAny tagless effect .state) ≡ true
 
-  history-low : 1 ≤ s .setup .history
+  pub history-low : 1 ≤ s .setup .history
   history-low = omega (arith, in-range (s .setup) (ok .in-range) .history)
 
-  history-high : s .setup .history ≤ most
+  pub history-high : s .setup .history ≤ most
   history-high = omega (arith, in-range (s .setup) (ok .in-range) .history)
 
-  -- ticks left after a packet
-  left-below : (passes : Bool) → restarted passes (s .setup) (s .left) .0 ≤ fullOf (s .setup) .0
+  -- ticks left after a packet are full ticks or those of before: what holds of both holds of them, in either use
+  left-after : (P : ℕ → Type 0) (passes : Bool) → P (fullOf (s .setup) .0) → P (s .left .0) → P (restarted passes (s .setup) (s .left) .0)
   unfolding restarted
-  left-below true = le-refl _
-  left-below false = ok .left-below
+  left-after P passes full before = either (λ (l : Left). P (l .0)) (passes || isIndividual (s .setup)) (λ _. full) (λ _. before)
 
-  left-some : (passes : Bool) → 1 ≤ s .left .0 → 1 ≤ restarted passes (s .setup) (s .left) .0
-  unfolding restarted
-  left-some true p = full-positive (s .setup) (ok .in-range)
-  left-some false p = p
+  full : 1 ≤ fullOf (s .setup) .0
+  full = full-positive (s .setup) (ok .in-range)
 
   next-sound : (takeAny : Bool) (tagless : ℕ) (effect : Effect) → clearFrom (s .setup .history) (effect .marks) ≡ true
       → (isVector (s .setup) || clearFrom 0 (effect .marks)) ≡ true
@@ -100,16 +97,25 @@ module _ (s : State) (ok : Sound s) where
         clear-above = fits;
         awaits-rightly = await;
         match-bare = bare;
-        left-below = left-below (effect .passes);
+        left-below = left-after (λ (n : ℕ). n ≤ fullOf (s .setup) .0) (effect .passes) (le-refl _) (ok .left-below);
       })
 
+  -- one without a number leaves all but ticks left and the counters
+  still-sound : (effect : Effect) → effect .newest ≡ s .newest → effect .marks ≡ s .marks → After (s .«take_any») 1 effect
+  unfolding settled awaits
+  still-sound effect newest marks =
+      let bare = eqb (s .newest) 65535 && clearFrom 0 (s .marks) in
+      let marked = not (isVector (s .setup)) || eqb (mark 0 (s .marks)) 1 in
+      next-sound (s .«take_any») 1 effect (rw marks (ok .clear-above)) (rw marks (ok .match-bare))
+      (rw (newest, marks)
+      (left-after (λ (n : ℕ). awaiting (s .«take_any») bare marked n ≡ true) (effect .passes)
+      (awaits-on (s .«take_any») _ _ (s .left .0) _ full (ok .awaits-rightly))
+      (ok .awaits-rightly)))
+
   tagless-sound : After (s .«take_any») 1 (unnumbered (s .setup .taken) (s .newest) (s .marks))
-  unfolding unnumbered settled awaits restarted
+  unfolding unnumbered
   tagless-sound =
-      either (After (s .«take_any») 1) (eqb (s .setup .taken) 1)
-      (λ _. next-sound (s .«take_any») 1 (accepted (s .newest) (s .marks) 0) (ok .clear-above) (ok .match-bare)
-      (awaits-on (s .«take_any») _ _ (s .left .0) _ (full-positive (s .setup) (ok .in-range)) (ok .awaits-rightly)))
-      (λ _. next-sound (s .«take_any») 1 (discarded (s .newest) (s .marks) 0) (ok .clear-above) (ok .match-bare) (ok .awaits-rightly))
+      either (After (s .«take_any») 1) (eqb (s .setup .taken) 1) (λ _. still-sound _ refl refl) (λ _. still-sound _ refl refl)
 
   -- a packet with a number leaves take-any off
   off-sound : (effect : Effect) → clearFrom (s .setup .history) (effect .marks) ≡ true
@@ -124,15 +130,15 @@ module _ (s : State) (ok : Sound s) where
   unfolding first restarted
   first-sound number =
       let m = first-marks (isVector (s .setup)) (s .setup .history) history-low history-high in
-      off-sound (first (isVector (s .setup)) number) (m .fits) (m .bare) (m .marked) (full-positive (s .setup) (ok .in-range))
+      off-sound (first (isVector (s .setup)) number) (m .fits) (m .bare) (m .marked) full
 
   module _ (off : s .«take_any» ≡ false) where
     when-off : (leb 1 (s .left .0) && (not (isVector (s .setup)) || eqb (mark 0 (s .marks)) 1)) ≡ true
     unfolding awaits
     when-off = rw off at (ok .awaits-rightly)
 
-    left : 1 ≤ s .left .0
-    left = leb-true 1 _ (both (leb 1 (s .left .0)) _ when-off .0)
+    left-some : (passes : Bool) → 1 ≤ restarted passes (s .setup) (s .left) .0
+    left-some passes = left-after (λ (n : ℕ). 1 ≤ n) passes full (leb-true 1 _ (both (leb 1 (s .left .0)) _ when-off .0))
 
     vector-sound : (number : ℕ) → isVector (s .setup) ≡ true → After false 0 (vector (s .setup .history) (s .newest) (s .marks) number)
     vector-sound number v =
@@ -140,14 +146,14 @@ module _ (s : State) (ok : Sound s) where
         let marked : eqb (mark 0 (s .marks)) 1 ≡ true = rw v at (both (leb 1 (s .left .0)) _ when-off .1) in
         let h = s .setup .history in
         let kept = vector-keeps h history-low history-high (s .newest) (s .marks) (ok .clear-above, eqb-true _ _ marked) number in
-        off-sound effect (kept .0) (rw v) (rw (v, eq-eqb _ _ (kept .1))) (left-some (effect .passes) left)
+        off-sound effect (kept .0) (rw v) (rw (v, eq-eqb _ _ (kept .1))) (left-some (effect .passes))
 
     match-sound : (number : ℕ) → isVector (s .setup) ≡ false → After false 0 (match (s .newest) (s .marks) number)
     unfolding match
     match-sound number v = either (After false 0) (eqb number (s .newest)) (λ _. same _ refl) (λ _. same _ refl)
       where
         same : (effect : Effect) → effect .marks ≡ s .marks → After false 0 effect
-        same effect e = off-sound effect (rw e (ok .clear-above)) (rw e (ok .match-bare)) (rw v) (left-some (effect .passes) left)
+        same effect e = off-sound effect (rw e (ok .clear-above)) (rw e (ok .match-bare)) (rw v) (left-some (effect .passes))
 
   numbered-sound : (number : ℕ) → After false 0 (numbered s number)
   unfolding numbered byRule

@@ -5,3 +5,4 @@ pub mod Storage
 pub mod Packets
 pub mod LatentErrors
 pub mod Spans
+pub mod Repeats

@@ -1,10 +1,10 @@
--- The timer: when a packet restarts it, and the tick (document 01, "Numbering and recovery"). Assumes nothing.
+-- The timer: when a packet restarts it, and the tick (document 01, "Numbering and recovery", and CR 2). Assumes nothing.
 use Prim.Native.Nat.{ℕ, _-_}
 use mathlib.Core.Path.{_≡_}
-use mathlib.Core.Bool.{Bool, cond}
+use mathlib.Core.Bool.{Bool, cond, _||_}
 use lib.Dec.{eqb}
 use Rattle.setup.specs.declared.Setup.{Setup}
-use Rattle.setup.specs.Range.{fullOf}
+use Rattle.setup.specs.Range.{isIndividual, fullOf}
 use Rattle.recovery.specs.declared.Left.{Left}
 use Rattle.recovery.specs.declared.State.{State}
 use Rattle.recovery.specs.declared.Timed.{Timed}
@@ -12,9 +12,10 @@ use Rattle.recovery.specs.declared.Ticked.the-variants as ticked
 use Rattle.recovery.specs.Soundness.{sound}
 use Rattle.recovery.specs.Resets.{resetState}
 
--- "Only a passed packet sets ticks left to full ticks, whatever the use"
+-- "Only a passed packet sets ticks left to full ticks", and by CR 2 "In individual use a discarded packet also restarts the timer; in
+-- sequence use nothing changes"
 unfoldable pub restarted : Bool → Setup → Left → Left
-restarted passes setup left = cond passes (record { 0 = fullOf setup .0 }) left
+restarted passes setup left = cond (passes || isIndividual setup) (record { 0 = fullOf setup .0 }) left
 
 -- the state with other ticks left
 abbrev pub withLeft : ℕ → State → State

@@ -62,12 +62,12 @@ impl State {
                     self.marks,
                     number,
                 );
-                let left = timer::left_after(e.passes, self.setup, self.left);
+                let left = timer::left_after(e, self.setup, self.left);
                 return self.settle(false, 0, left, e);
             }
             Packet::Tagless => {
                 let e = rules::hear_no_number(self.setup.taken, self.newest, self.marks);
-                let left = timer::left_after(e.passes, self.setup, self.left);
+                let left = timer::left_after(e, self.setup, self.left);
                 return self.settle(self.take_any, 1, left, e);
             }
         }

@@ -5,15 +5,17 @@ use crate::Left;
 use crate::State;
 use crate::Ticked;
 use crate::Timed;
+use rules::Effect;
 use setup::Setup;
 
-// Ticks left after a packet: only one that passes restarts the timer.
-pub(crate) fn left_after(passes: bool, setup: Setup, left: Left) -> Left
-    ensures { λ r. ⌜ r ≡ restarted passes setup left ⌝ }
+// Ticks left after a packet, of what it does: one that passes restarts the timer, and in individual use every one does.
+pub(crate) fn left_after(e: Effect, setup: Setup, left: Left) -> Left
+    ensures { λ r. ⌜ r ≡ restarted (e .passes) setup left ⌝ }
 {
-    if passes {
+    if e.passes | (setup.usage == 1) {
         let full = setup.full();
-        Left(full.count())
+        let ticks = full.count();
+        Left(ticks)
     } else {
         left
     }

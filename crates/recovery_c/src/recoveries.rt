@@ -13,9 +13,10 @@ ghost use Rattle.recovery_c.specs.Recoveries.{BeginsTo, StepsTo, TestsTo
 
 // A fresh state, written to the first words.
 #[no_mangle]
-pub extern "C" fn ahz_fresh(
+pub extern "C" fn ahz_fresh_v2(
     rule: u8,
     taken: u8,
+    usage: u8,
     history: u16,
     milliseconds: u32,
     rate: u16,
@@ -23,10 +24,20 @@ pub extern "C" fn ahz_fresh(
     difference: u32,
     state: &mut [u64],
 ) -> u8
-    ensures { λ r. ⌜ BeginsTo (setupOf rule taken history milliseconds rate paths difference) (now (state .entry)) r (now (state .exit)) ⌝ }
+    ensures { λ r.
+        ⌜ BeginsTo (setupOf rule taken usage history milliseconds rate paths difference) (now (state .entry)) r (now (state .exit)) ⌝ }
 {
     begin_in(
-        Setup::of(rule, taken, history, milliseconds, rate, paths, difference),
+        Setup::of(
+            rule,
+            taken,
+            usage,
+            history,
+            milliseconds,
+            rate,
+            paths,
+            difference,
+        ),
         state,
     )
 }

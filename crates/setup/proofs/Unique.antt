@@ -9,9 +9,10 @@ use Rattle.setup.specs.Values.{Makes}
 use Rattle.setup.specs.Conversion.{Converts, Counts}
 use Rattle.setup.specs.Range.{ChecksNumbers, ChecksSetup, GivesFull}
 
-pub makes-one : (rule taken history milliseconds rate paths difference : ℕ) {a b : Setup}
-    → Makes rule taken history milliseconds rate paths difference a → Makes rule taken history milliseconds rate paths difference b → a ≡ b
-makes-one rule taken history milliseconds rate paths difference = one
+pub makes-one : (rule taken usage history milliseconds rate paths difference : ℕ) {a b : Setup}
+    → Makes rule taken usage history milliseconds rate paths difference a → Makes rule taken usage history milliseconds rate paths difference b
+    → a ≡ b
+makes-one rule taken usage history milliseconds rate paths difference = one
 
 pub converts-one : (timeout : Milliseconds) (rate : ℕ) {a b : Ticks} → Converts timeout rate a → Converts timeout rate b → a ≡ b
 converts-one timeout rate = one
@@ -19,9 +20,10 @@ converts-one timeout rate = one
 pub counts-one : (ticks : Ticks) {a b : ℕ} → Counts ticks a → Counts ticks b → a ≡ b
 counts-one ticks = one
 
-pub checks-numbers-one : (rule taken history milliseconds rate paths : ℕ) {a b : ℕ}
-    → ChecksNumbers rule taken history milliseconds rate paths a → ChecksNumbers rule taken history milliseconds rate paths b → a ≡ b
-checks-numbers-one rule taken history milliseconds rate paths p q = one (p 0) (q 0)
+pub checks-numbers-one : (rule taken usage history milliseconds rate paths : ℕ) {a b : ℕ}
+    → ChecksNumbers rule taken usage history milliseconds rate paths a → ChecksNumbers rule taken usage history milliseconds rate paths b
+    → a ≡ b
+checks-numbers-one rule taken usage history milliseconds rate paths p q = one (p 0) (q 0)
 
 pub checks-setup-one : (setup : Setup) {a b : ℕ} → ChecksSetup setup a → ChecksSetup setup b → a ≡ b
 checks-setup-one setup = one

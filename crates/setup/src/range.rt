@@ -1,4 +1,4 @@
-// A setup by itself: 15, 27, 16 to 19, in this order.
+// A setup by itself: 15, 27 (taken), 27 (use), 16 to 19, in this order.
 ghost use mathlib.Core.Path.{_≡_};
 ghost use mathlib.Core.Bool.{cond};
 ghost use Rattle.setup.specs.Range.{within as inRange, ChecksNumbers, ChecksSetup, GivesFull};
@@ -24,18 +24,20 @@ fn unless(holds: bool, number: u8, later: u8) -> u8
 pub fn check_numbers(
     rule: u64,
     taken: u64,
+    usage: u64,
     history: u64,
     milliseconds: u64,
     rate: u64,
     paths: u64,
 ) -> u8
-    ensures { λ r. ⌜ ChecksNumbers rule taken history milliseconds rate paths r ⌝ }
+    ensures { λ r. ⌜ ChecksNumbers rule taken usage history milliseconds rate paths r ⌝ }
 {
     let from_paths = unless(within(2, 8, paths), 19, 0);
     let from_rate = unless(within(1, 10000, rate), 18, from_paths);
     let from_time = unless(within(1, 3600000, milliseconds), 17, from_rate);
     let from_history = unless(within(2, 64, history), 16, from_time);
-    let from_taken = unless(taken <= 1, 27, from_history);
+    let from_usage = unless(usage <= 1, 27, from_history);
+    let from_taken = unless(taken <= 1, 27, from_usage);
     unless(rule <= 1, 15, from_taken)
 }
 
@@ -47,6 +49,7 @@ impl Setup {
         check_numbers(
             self.rule as u64,
             self.taken as u64,
+            self.usage as u64,
             self.history as u64,
             self.timeout.0 as u64,
             self.rate as u64,

@@ -9,6 +9,6 @@ use Rattle.setup.specs.Range.{checked}
 abbrev pub ConvertsTo : ℕ → ℕ → ℕ → Type 0
 ConvertsTo milliseconds rate r = r ≡ ticksOf (record { 0 = milliseconds }) rate .0
 
--- of `ahz_check_setup`: "A setup is checked 15, 27, 16 to 19 wherever it is handed in by itself"
+-- of `ahz_check_setup_v2`: "A setup is checked 15, 27, 16 to 19 wherever it is handed in by itself"
 abbrev pub ChecksSetupTo : Setup → ℕ → Type 0
 ChecksSetupTo setup r = r ≡ checked setup

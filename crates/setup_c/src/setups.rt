@@ -16,17 +16,27 @@ pub extern "C" fn ahz_ticks(milliseconds: u32, rate: u16) -> u64
 
 // The verdict on a setup.
 #[no_mangle]
-pub extern "C" fn ahz_check_setup(
+pub extern "C" fn ahz_check_setup_v2(
     rule: u8,
     taken: u8,
+    usage: u8,
     history: u16,
     milliseconds: u32,
     rate: u16,
     paths: u8,
     difference: u32,
 ) -> u8
-    ensures { λ r. ⌜ ChecksSetupTo (setupOf rule taken history milliseconds rate paths difference) r ⌝ }
+    ensures { λ r. ⌜ ChecksSetupTo (setupOf rule taken usage history milliseconds rate paths difference) r ⌝ }
 {
-    let setup = Setup::of(rule, taken, history, milliseconds, rate, paths, difference);
+    let setup = Setup::of(
+        rule,
+        taken,
+        usage,
+        history,
+        milliseconds,
+        rate,
+        paths,
+        difference,
+    );
     setup.check()
 }

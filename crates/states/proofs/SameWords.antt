@@ -26,13 +26,15 @@ holds w e =
     let rate = both _ _ (paths .0) in
     let timeout = both _ _ (rate .0) in
     let history = both _ _ (timeout .0) in
-    let taken = both _ _ (history .0) in
+    let usage = both _ _ (history .0) in
+    let taken = both _ _ (usage .0) in
     let rule = both _ _ (taken .0) in
     record {
       enough = leb-true _ _ (p .0);
       marked = eqb-true _ _ (rule .0);
       rule = ltb-true _ _ (rule .1);
       taken = ltb-true _ _ (taken .1);
+      usage = ltb-true _ _ (usage .1);
       history = ltb-true _ _ (history .1);
       timeout = ltb-true _ _ (timeout .1);
       rate = ltb-true _ _ (rate .1);
@@ -70,4 +72,4 @@ one-or-none (suc (suc n)) l = absurd (omega (arith, l))
 pub same-words : (w : List ℕ) → held w ≡ true → putIn (wordsOf (stateOf w)) w ≡ w
 unfolding wordsOf stateOf listed
 same-words w e =
-    let h = holds w e in rw (one-or-none (word 10 w) (h .«take_any»), sym (h .marked)) (listed-first 0 21 w (h .enough))
+    let h = holds w e in rw (one-or-none (word 11 w) (h .«take_any»), sym (h .marked)) (listed-first 0 22 w (h .enough))

@@ -1,6 +1,6 @@
--- A recovery state in twenty-one words: the format, and one for each field, in document 01's order: "Setup holds: .." and "State: setup,
--- newest number, H marks .., take-any, ticks left, eight 64-bit counters .. and a latent base". A state is the first words of what is lent,
--- and later words stay, as the paper has it of an output's octets. Assumes nothing.
+-- A recovery state in twenty-two words: the format, and one for each field, in document 01's order: "Setup holds: ..", with CR 2's use
+-- behind taken, and "State: setup, newest number, H marks .., take-any, ticks left, eight 64-bit counters .. and a latent base". A state is
+-- the first words of what is lent, and later words stay, as the paper has it of an output's octets. Assumes nothing.
 use Prim.Native.Nat.{ℕ, _<_, _≤_}
 use mathlib.Core.Path.{_≡_}
 use mathlib.Core.Bool.{Bool, cond, _&&_}
@@ -18,9 +18,10 @@ use Rattle.recovery.specs.Storage.{storedState}
 use Rattle.states.specs.declared.Held.{Held}
 use Rattle.states.specs.declared.Held.the-variants as held-in
 
--- what the first word says of the others: "AHZ" in octets and a 1, 41485A01 in hex. Words of another kind or order get another
+-- what the first word says of the others: "AHZ" in octets and a 2, 41485A02 in hex. Words of another kind or order get another; those with
+-- a 1 had no use
 abbrev pub format : ℕ
-format = 1095260673
+format = 1095260674
 
 -- the words of a state
 unfoldable pub wordsOf : State → List ℕ
@@ -28,6 +29,7 @@ wordsOf s =
     format
     ∷ s .setup .rule
     ∷ s .setup .taken
+    ∷ s .setup .usage
     ∷ s .setup .history
     ∷ s .setup .timeout .0
     ∷ s .setup .rate
@@ -58,53 +60,55 @@ fieldsFit w =
     eqb (word 0 w) format
     && ltb (word 1 w) 256
     && ltb (word 2 w) 256
-    && ltb (word 3 w) 65536
-    && ltb (word 4 w) 4294967296
-    && ltb (word 5 w) 65536
-    && ltb (word 6 w) 256
-    && ltb (word 7 w) 4294967296
-    && ltb (word 8 w) 65536
-    && ltb (word 10 w) 2
+    && ltb (word 3 w) 256
+    && ltb (word 4 w) 65536
+    && ltb (word 5 w) 4294967296
+    && ltb (word 6 w) 65536
+    && ltb (word 7 w) 256
+    && ltb (word 8 w) 4294967296
+    && ltb (word 9 w) 65536
+    && ltb (word 11 w) 2
 
--- words that hold a state: twenty-one or more, in this format, each of which its field can hold
+-- words that hold a state: twenty-two or more, in this format, each of which its field can hold
 unfoldable pub held : List ℕ → Bool
-held w = leb 21 (length w) && fieldsFit w
+held w = leb 22 (length w) && fieldsFit w
 
 -- the same, field by field, as the inner functions of this room ask it of each other
 pub record Holds (w : List ℕ) : Type 0 where
-  pub enough : 21 ≤ length w
+  pub enough : 22 ≤ length w
   pub marked : word 0 w ≡ format
   pub rule : word 1 w < 256
   pub taken : word 2 w < 256
-  pub history : word 3 w < 65536
-  pub timeout : word 4 w < 4294967296
-  pub rate : word 5 w < 65536
-  pub paths : word 6 w < 256
-  pub difference : word 7 w < 4294967296
-  pub newest : word 8 w < 65536
-  pub «take_any» : word 10 w < 2
+  pub usage : word 3 w < 256
+  pub history : word 4 w < 65536
+  pub timeout : word 5 w < 4294967296
+  pub rate : word 6 w < 65536
+  pub paths : word 7 w < 256
+  pub difference : word 8 w < 4294967296
+  pub newest : word 9 w < 65536
+  pub «take_any» : word 11 w < 2
 
 -- the setup of such words
 abbrev pub setupIn : List ℕ → Setup
-setupIn w = setupOf (word 1 w) (word 2 w) (word 3 w) (word 4 w) (word 5 w) (word 6 w) (word 7 w)
+setupIn w = setupOf (word 1 w) (word 2 w) (word 3 w) (word 4 w) (word 5 w) (word 6 w) (word 7 w) (word 8 w)
 
 -- their counters
 abbrev pub countersIn : List ℕ → Counters
 countersIn w =
     record {
-      passed = word 12 w;
-      discarded = word 13 w;
-      order = word 14 w;
-      rogue = word 15 w;
-      lost = word 16 w;
-      tagless = word 17 w;
-      resets = word 18 w;
-      «latent_resets» = word 19 w;
+      passed = word 13 w;
+      discarded = word 14 w;
+      order = word 15 w;
+      rogue = word 16 w;
+      lost = word 17 w;
+      tagless = word 18 w;
+      resets = word 19 w;
+      «latent_resets» = word 20 w;
     }
 
 -- and the state that they hold
 unfoldable pub stateOf : List ℕ → State
-stateOf w = storedState (setupIn w) (word 8 w) (marksOf (word 9 w)) (eqb (word 10 w) 1) (word 11 w) (countersIn w) (word 20 w)
+stateOf w = storedState (setupIn w) (word 9 w) (marksOf (word 10 w)) (eqb (word 11 w) 1) (word 12 w) (countersIn w) (word 21 w)
 
 -- what `read` gives: the state of words that hold one
 abbrev pub ReadsState : List ℕ → Held → Type 0

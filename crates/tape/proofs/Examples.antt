@@ -3,13 +3,13 @@ use mathlib.Core.Path.{refl}
 use Rattle.octets.specs.Number.{be16, be32}
 use Rattle.marks.specs.Window.{mark, none, clearFrom, set, reach, moved, lostBy, slid, lostIn}
 use Rattle.setup.specs.Conversion.{fullTicks, ticksOf}
-use Rattle.setup.specs.Range.{setupChecks, checked, isVector}
-use Rattle.counters.specs.Counting.{plus, counted}
-use Rattle.recovery.specs.Resets.{freshState, begunFrom}
+use Rattle.setup.specs.Range.{setupChecks, checked, isVector, isIndividual}
+use Rattle.counters.specs.Counting.{plus, counted, resetCounted}
+use Rattle.recovery.specs.Resets.{freshState, begunFrom, resetState}
 use Rattle.recovery.specs.Soundness.{awaits, sound}
 use Rattle.rules.specs.Difference.{apart, signed, difference}
 use Rattle.rules.specs.Vector.{late, onward, byDifference, vector}
-use Rattle.recovery.specs.Timer.{restarted}
+use Rattle.recovery.specs.Timer.{restarted, timed, tickOf}
 use Rattle.recovery.specs.Packets.{numbered, settled, heard, packetOf}
 use Rattle.rules.specs.TakeAny.{firstMarks, first}
 use Rattle.rules.specs.ByRule.{byRule}
@@ -20,11 +20,12 @@ use Rattle.lines.specs.Lines.{decimalIn, text, faultText, labels, counted as li
 use Rattle.events.specs.Event.{known, width, checks}
 use Rattle.turns.specs.Turn.{setupAt, callAt, begins, runs, eventAt, outcomeAt}
 use Rattle.tape.specs.Player.{figures, linesFrom, played, tapeChecks, outputOf}
-use Rattle.tape.specs.Examples.{setup, cases, AsPrinted}
+use Rattle.tape.specs.Examples.{setupFor, setup, stuck, cases, AsPrinted}
 
 pub as-printed : AsPrinted
-unfolding be16 be32 mark none clearFrom set reach moved lostBy slid lostIn fullTicks ticksOf setupChecks checked isVector plus freshState
-    begunFrom awaits sound apart signed difference late onward byDifference vector restarted byRule numbered firstMarks first counted settled
-    heard packetOf less absolute figure exceeds latentError latentTestOf cases setup outputOf tapeChecks verdict played linesFrom figures
-    outcomeAt eventAt checks begins known width setupAt callAt runs text faultText labels listed countersText decimalIn
+unfolding be16 be32 mark none clearFrom set reach moved lostBy slid lostIn fullTicks ticksOf setupChecks checked isVector isIndividual plus
+    freshState begunFrom awaits sound apart signed difference late onward byDifference vector restarted timed tickOf resetState resetCounted
+    byRule numbered firstMarks first counted settled heard packetOf less absolute figure exceeds latentError latentTestOf cases setupFor
+    setup stuck outputOf tapeChecks verdict played linesFrom figures outcomeAt eventAt checks begins known width setupAt callAt runs text
+    faultText labels listed countersText decimalIn
 as-printed = refl

@@ -1,5 +1,5 @@
--- Document 01's worked tape, and seven tapes with fault 23, 24 or 25: `AsPrinted` says that each prints the lines beside it, a claim, which
--- proofs/Examples proves. Assumes nothing.
+-- Document 01's worked tape, seven tapes with fault 23, 24 or 25, and of CR 2 the stuck sender in both uses and a use that there is not:
+-- `AsPrinted` says that each prints the lines beside it, a claim, which proofs/Examples proves. Assumes nothing.
 use Prim.Native.Nat.{ℕ}
 use Prim.Native.String.{String}
 use mathlib.Core.Path.{_≡_}
@@ -12,9 +12,17 @@ pub record Case : Type 0 where
   pub tape : List ℕ
   pub lines : String
 
--- setup (vector, 0, 4, 100, 100, 2, 1)
+-- setup (vector, 0, 4, 100, 100, 2, 1), with a use behind taken and another timeout
+unfoldable pub setupFor : (usage ms : ℕ) → List ℕ
+setupFor usage ms = 0x0F ∷ 0 ∷ 0 ∷ usage ∷ 0 ∷ 4 ∷ 0 ∷ 0 ∷ 0 ∷ ms ∷ 0 ∷ 100 ∷ 2 ∷ 0 ∷ 0 ∷ 0 ∷ 1 ∷ []
+
+-- in sequence use, as it is
 unfoldable pub setup : List ℕ
-setup = 0x0F ∷ 0 ∷ 0 ∷ 0 ∷ 4 ∷ 0 ∷ 0 ∷ 0 ∷ 100 ∷ 0 ∷ 100 ∷ 2 ∷ 0 ∷ 0 ∷ 0 ∷ 1 ∷ []
+setup = setupFor 0 100
+
+-- packet 7 three times, with a tick between; 20 ms are two ticks
+unfoldable pub stuck : List ℕ
+stuck = 1 ∷ 0 ∷ 7 ∷ 3 ∷ 1 ∷ 0 ∷ 7 ∷ 3 ∷ 1 ∷ 0 ∷ 7 ∷ []
 
 unfoldable pub cases : List Case
 cases =
@@ -32,6 +40,17 @@ cases =
     -- 23 before 25, and 24 before 25
     ∷ record { tape = 7 ∷ []; lines = "fault 23\n" }
     ∷ record { tape = 1 ∷ 0 ∷ []; lines = "fault 24\n" }
+    -- "our timer ran out under it, letting the repeat through"; "In individual use a discarded packet also restarts the timer"
+    ∷ record {
+      tape = setupFor 0 20 ++ stuck;
+      lines = "ok\npass\ntick\ndiscard\nreset\npass\npassed=2 discarded=1 order=0 rogue=0 lost=0 tagless=0 resets=1 latent-resets=0\n";
+    }
+    ∷ record {
+      tape = setupFor 1 20 ++ stuck;
+      lines = "ok\npass\ntick\ndiscard\ntick\ndiscard\npassed=1 discarded=2 order=0 rogue=0 lost=0 tagless=0 resets=0 latent-resets=0\n";
+    }
+    -- "0 sequence, 1 individual, else 27"
+    ∷ record { tape = setupFor 2 100; lines = "fault 27\n" }
     ∷ []
 
 abbrev pub given : Case → List ℕ

@@ -30,17 +30,18 @@ use Rattle.turns.specs.declared.Outcome.the-variants.{Next, Fault, End}
 use Rattle.turns.specs.declared.turn.Said.{Said}
 use Rattle.turns.specs.declared.turn.Said.the-variants as said
 
--- "(rule 1, taken 1, H 2, ms 4, ticks 2, paths 1, difference 4)", behind the kind at a place
+-- "(rule 1, taken 1, H 2, ms 4, ticks 2, paths 1, difference 4)", and by CR 2 a use in "one octet after taken", behind the kind at a place
 unfoldable pub setupAt : List ℕ → ℕ → Setup
 setupAt tape at =
     setupOf
     (getD tape (at + 1) 0)
     (getD tape (at + 2) 0)
-    (be16 tape (at + 3))
-    (be32 tape (at + 5))
-    (be16 tape (at + 9))
-    (getD tape (at + 11) 0)
-    (be32 tape (at + 12))
+    (getD tape (at + 3) 0)
+    (be16 tape (at + 4))
+    (be32 tape (at + 6))
+    (be16 tape (at + 10))
+    (getD tape (at + 12) 0)
+    (be32 tape (at + 13))
 
 -- "01 numbered packet .. ; 02 no number .. ; 03 tick .. ; 04 reset .. ; 05 latent reset .. ; 06 latent test": the call of an event that is
 -- no setup, by the kind at a place

@@ -26,11 +26,12 @@ fn setup_at(tape: &[u8], at: usize) -> Setup
     Setup::of(
         octets::octet(tape, at + 1),
         octets::octet(tape, at + 2),
-        octets::word16(tape, at + 3),
-        octets::word32(tape, at + 5),
-        octets::word16(tape, at + 9),
-        octets::octet(tape, at + 11),
-        octets::word32(tape, at + 12),
+        octets::octet(tape, at + 3),
+        octets::word16(tape, at + 4),
+        octets::word32(tape, at + 6),
+        octets::word16(tape, at + 10),
+        octets::octet(tape, at + 12),
+        octets::word32(tape, at + 13),
     )
 }
 

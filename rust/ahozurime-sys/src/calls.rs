@@ -61,10 +61,12 @@ extern "C" {
     /// Full ticks of a timeout: milliseconds x rate / 1000, rounded up.
     pub fn ahz_ticks(milliseconds: u32, rate: u16) -> u64;
 
-    /// Checks a setup. Refuses 15, 27, 16, 17, 18, 19.
-    pub fn ahz_check_setup(
+    /// Checks a setup. Refuses 15, 27 for `taken` and then for `usage`, 16, 17, 18, 19. What the header
+    /// calls `use`, which is a keyword of Rust, is `usage` here.
+    pub fn ahz_check_setup_v2(
         rule: u8,
         taken: u8,
+        usage: u8,
         history: u16,
         milliseconds: u32,
         rate: u16,
@@ -73,10 +75,12 @@ extern "C" {
     ) -> u8;
 
     /// Writes a fresh state of that setup to the first [`AHZ_S_WORDS`](crate::AHZ_S_WORDS) words of
-    /// `state`; later words stay. Refuses as [`ahz_check_setup`]; then 8 where there are fewer words.
-    pub fn ahz_fresh(
+    /// `state`; later words stay. Refuses as [`ahz_check_setup_v2`]; then 8 where there are fewer
+    /// words.
+    pub fn ahz_fresh_v2(
         rule: u8,
         taken: u8,
+        usage: u8,
         history: u16,
         milliseconds: u32,
         rate: u16,
@@ -132,7 +136,7 @@ extern "C" {
     /// Runs a bench tape and writes its lines to `out`, and how many octets they are to `length`;
     /// later octets stay. It takes [`AHZ_TAPE_STACK`](crate::AHZ_TAPE_STACK) octets of stack. Refuses
     /// 8.
-    pub fn ahz_tape(
+    pub fn ahz_tape_v2(
         tape: *const u8,
         tape_octets: usize,
         out: *mut u8,

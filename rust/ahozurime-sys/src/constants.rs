@@ -1,7 +1,7 @@
 // ---- The version ----
 
 /// Goes up where a program written for an older header could go wrong.
-pub const AHZ_VERSION_MAJOR: u32 = 1;
+pub const AHZ_VERSION_MAJOR: u32 = 2;
 /// Goes up where something is only added.
 pub const AHZ_VERSION_MINOR: u32 = 0;
 /// The version that this package is written for; [`ahz_version`](crate::ahz_version) answers that of
@@ -10,7 +10,7 @@ pub const AHZ_VERSION: u32 = AHZ_VERSION_MAJOR * 65_536 + AHZ_VERSION_MINOR;
 
 // ---- Stack ----
 
-/// Octets of stack that are enough for [`ahz_tape`](crate::ahz_tape).
+/// Octets of stack that are enough for [`ahz_tape_v2`](crate::ahz_tape_v2).
 pub const AHZ_TAPE_STACK: usize = 54_784;
 /// Octets of stack that are enough for every other call.
 pub const AHZ_STACK: usize = 256;
@@ -61,8 +61,8 @@ pub const AHZ_R_CARD_KIND: u8 = 20;
 pub const AHZ_R_CARD_CUT: u8 = 21;
 /// Not 0 < gain <= 1 or not -100 <= offset <= 100, a NaN among them.
 pub const AHZ_R_CALIBRATION: u8 = 22;
-/// Setup: taken flag not 0 or 1.
-pub const AHZ_R_TAKEN: u8 = 27;
+/// Setup: taken flag or use not 0 or 1.
+pub const AHZ_R_TAKEN_OR_USE: u8 = 27;
 
 // ---- The faults of a tape, which stand in its output and are never an answer ----
 
@@ -181,6 +181,10 @@ pub const AHZ_RULE_MATCH: u8 = 1;
 pub const AHZ_NOT_TAKEN: u8 = 0;
 /// Packets without a number pass.
 pub const AHZ_TAKEN: u8 = 1;
+/// The use of a state behind all paths: only a packet that passes restarts the timer.
+pub const AHZ_USE_SEQUENCE: u8 = 0;
+/// The use of a state for one member stream: a packet that is discarded restarts the timer too.
+pub const AHZ_USE_INDIVIDUAL: u8 = 1;
 /// The least history length.
 pub const AHZ_HISTORY_LEAST: u16 = 2;
 /// The greatest history length.
@@ -201,7 +205,7 @@ pub const AHZ_PATHS_MOST: u8 = 8;
 // ---- The words of a state ----
 
 /// What [`AHZ_S_FORMAT`] holds: it changes whenever the words of a state or their meaning do.
-pub const AHZ_STATE_FORMAT: u64 = 0x4148_5A01;
+pub const AHZ_STATE_FORMAT: u64 = 0x4148_5A02;
 
 /// [`AHZ_STATE_FORMAT`]; a state of another format is refused by 14.
 pub const AHZ_S_FORMAT: usize = 0;
@@ -209,44 +213,46 @@ pub const AHZ_S_FORMAT: usize = 0;
 pub const AHZ_S_RULE: usize = 1;
 /// 1 where packets without a number are taken, else 0.
 pub const AHZ_S_TAKEN: usize = 2;
+/// 0 sequence, 1 individual.
+pub const AHZ_S_USE: usize = 3;
 /// The history length, 2 to 64.
-pub const AHZ_S_HISTORY: usize = 3;
+pub const AHZ_S_HISTORY: usize = 4;
 /// The timeout, 1 to 3,600,000.
-pub const AHZ_S_MILLISECONDS: usize = 4;
+pub const AHZ_S_MILLISECONDS: usize = 5;
 /// Ticks per second, 1 to 10,000.
-pub const AHZ_S_RATE: usize = 5;
+pub const AHZ_S_RATE: usize = 6;
 /// Paths, 2 to 8.
-pub const AHZ_S_PATHS: usize = 6;
+pub const AHZ_S_PATHS: usize = 7;
 /// The latent difference, below 2^32.
-pub const AHZ_S_DIFFERENCE: usize = 7;
+pub const AHZ_S_DIFFERENCE: usize = 8;
 /// The newest number, below 2^16.
-pub const AHZ_S_NEWEST: usize = 8;
+pub const AHZ_S_NEWEST: usize = 9;
 /// Bit k is mark k; mark 0 is the newest.
-pub const AHZ_S_MARKS: usize = 9;
+pub const AHZ_S_MARKS: usize = 10;
 /// 1 where any number is taken next, else 0.
-pub const AHZ_S_TAKE_ANY: usize = 10;
+pub const AHZ_S_TAKE_ANY: usize = 11;
 /// Ticks left.
-pub const AHZ_S_LEFT: usize = 11;
+pub const AHZ_S_LEFT: usize = 12;
 /// Packets that passed. The eight counters wrap.
-pub const AHZ_S_PASSED: usize = 12;
+pub const AHZ_S_PASSED: usize = 13;
 /// Packets that were discarded.
-pub const AHZ_S_DISCARDED: usize = 13;
+pub const AHZ_S_DISCARDED: usize = 14;
 /// Packets that passed out of order.
-pub const AHZ_S_ORDER: usize = 14;
+pub const AHZ_S_ORDER: usize = 15;
 /// Packets discarded for a number too far from the newest.
-pub const AHZ_S_ROGUE: usize = 15;
+pub const AHZ_S_ROGUE: usize = 16;
 /// Places that the window left and that nothing passed at.
-pub const AHZ_S_LOST: usize = 16;
+pub const AHZ_S_LOST: usize = 17;
 /// Packets without a number.
-pub const AHZ_S_TAGLESS: usize = 17;
+pub const AHZ_S_TAGLESS: usize = 18;
 /// Resets, by call or by timeout.
-pub const AHZ_S_RESETS: usize = 18;
+pub const AHZ_S_RESETS: usize = 19;
 /// Latent resets.
-pub const AHZ_S_LATENT_RESETS: usize = 19;
+pub const AHZ_S_LATENT_RESETS: usize = 20;
 /// The latent base, modulo 2^64.
-pub const AHZ_S_BASE: usize = 20;
+pub const AHZ_S_BASE: usize = 21;
 /// How many words a state has.
-pub const AHZ_S_WORDS: usize = 21;
+pub const AHZ_S_WORDS: usize = 22;
 
 // ---- Charge cards, by their first octet ----
 
@@ -279,7 +285,7 @@ pub const AHZ_EVENT_RESET: u8 = 0x04;
 pub const AHZ_EVENT_LATENT_RESET: u8 = 0x05;
 /// A latent test.
 pub const AHZ_EVENT_LATENT_TEST: u8 = 0x06;
-/// The setup, in 15 octets: the first event, and there is no second.
+/// The setup, in 16 octets: the first event, and there is no second.
 pub const AHZ_EVENT_SETUP: u8 = 0x0F;
 
 /// Octets of the longest tape that is no fault.

@@ -4,6 +4,9 @@
 //! does; a test of this package holds the two against each other. The package `ahozurime` offers the
 //! same calls over slices, with types for units and answers, and is what a program should use.
 //!
+//! A call whose name ends in `_v2` took other arguments, or other octets, before version 2. So an
+//! archive of version 1 is not linked and then misread: it does not have these names.
+//!
 //! # What every call asks for
 //!
 //! A pointer and the length after it are lent memory: so many octets, or 64-bit words, must be

@@ -158,6 +158,8 @@ fn prototype(statement: &[&str], calls: &mut Calls) {
         .filter(|argument| argument != &["void"])
         .map(|argument| {
             let (name, its_type) = argument.split_last().expect("a name");
+            // The one name of the header that is a keyword of Rust.
+            let name = if *name == "use" { "usage" } else { name };
             format!("{name}: {}", rust_type(its_type))
         })
         .collect();

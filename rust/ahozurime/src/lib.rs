@@ -23,7 +23,7 @@
 //!
 //! ```
 //! use ahozurime::cards::{self, Calibration, Card, Reading};
-//! use ahozurime::recovery::{Generator, Rule, Setup, State, Verdict};
+//! use ahozurime::recovery::{Generator, Rule, Setup, State, Usage, Verdict};
 //! use ahozurime::{frame, streams, Blocks, Milliseconds, Refusal, TicksPerSecond, Volts};
 //!
 //! /// The frame without its tag, in `out`: none where it belongs to no stream or is a repeat.
@@ -55,6 +55,7 @@
 //! let setup = Setup {
 //!     rule: Rule::Vector,
 //!     take_tagless: false,
+//!     usage: Usage::Sequence,
 //!     history: 16,
 //!     timeout: Milliseconds(100),
 //!     rate: TicksPerSecond(1_000),

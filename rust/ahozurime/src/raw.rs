@@ -6,8 +6,8 @@
 
 use ahozurime_sys as sys;
 
-/// A setup's seven numbers, in the header's order.
-pub type SetupNumbers = (u8, u8, u16, u32, u16, u8, u32);
+/// A setup's eight numbers, in the header's order.
+pub type SetupNumbers = (u8, u8, u8, u16, u32, u16, u8, u32);
 
 #[inline]
 pub fn version() -> u32 {
@@ -78,17 +78,20 @@ pub fn ticks(milliseconds: u32, rate: u16) -> u64 {
 }
 
 #[inline]
-pub fn check_setup((rule, taken, history, ms, rate, paths, difference): SetupNumbers) -> u8 {
+pub fn check_setup(setup: SetupNumbers) -> u8 {
+    let (rule, taken, usage, history, ms, rate, paths, difference) = setup;
     // Safety: nothing is lent.
-    unsafe { sys::ahz_check_setup(rule, taken, history, ms, rate, paths, difference) }
+    unsafe { sys::ahz_check_setup_v2(rule, taken, usage, history, ms, rate, paths, difference) }
 }
 
 #[inline]
 pub fn fresh(setup: SetupNumbers, state: &mut [u64; sys::AHZ_S_WORDS]) -> u8 {
-    let (rule, taken, history, ms, rate, paths, difference) = setup;
+    let (rule, taken, usage, history, ms, rate, paths, difference) = setup;
     let (at, words) = (state.as_mut_ptr(), state.len());
     // Safety: one slice with its length, borrowed alone.
-    unsafe { sys::ahz_fresh(rule, taken, history, ms, rate, paths, difference, at, words) }
+    unsafe {
+        sys::ahz_fresh_v2(rule, taken, usage, history, ms, rate, paths, difference, at, words)
+    }
 }
 
 #[inline]
@@ -155,5 +158,5 @@ pub fn volts(payload: &[u8], gain: f64, offset: f64, volts: &mut f64) -> u8 {
 pub fn tape(tape: &[u8], out: &mut [u8], length: &mut usize) -> u8 {
     let (at, octets) = (out.as_mut_ptr(), out.len());
     // Safety: two slices, each with its length, and one number; the last two are borrowed alone.
-    unsafe { sys::ahz_tape(tape.as_ptr(), tape.len(), at, octets, length) }
+    unsafe { sys::ahz_tape_v2(tape.as_ptr(), tape.len(), at, octets, length) }
 }

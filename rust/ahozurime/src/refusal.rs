@@ -62,7 +62,7 @@ refusals! {
     24 EVENT_CUT "octets end inside a tape event"
     25 TAPE_SETUP "setup missing or repeated on a tape"
     26 TAPE_LONG "tape over 4,096 octets"
-    27 TAKEN "taken flag not 0 or 1"
+    27 TAKEN_OR_USE "taken flag or use not 0 or 1"
 }
 
 impl Refusal {

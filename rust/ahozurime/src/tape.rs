@@ -6,8 +6,9 @@
 //! use ahozurime::tape::{self, KIND_NUMBERED, KIND_SETUP, KIND_TICK};
 //! use ahozurime::Refusal;
 //!
-//! // Vector, none without a number, history 4, 100 ms, 100 ticks a second, 2 paths, difference 1.
-//! let mut events = vec![KIND_SETUP, 0, 0, 0, 4, 0, 0, 0, 100, 0, 100, 2, 0, 0, 0, 1];
+//! // Vector, none without a number, sequence, history 4, 100 ms, 100 ticks a second, 2 paths,
+//! // difference 1.
+//! let mut events = vec![KIND_SETUP, 0, 0, 0, 0, 4, 0, 0, 0, 100, 0, 100, 2, 0, 0, 0, 1];
 //! // Twice the packet 10; a tick.
 //! events.extend([KIND_NUMBERED, 0, 10, KIND_NUMBERED, 0, 10, KIND_TICK]);
 //! let mut out = [0; 128];
@@ -36,8 +37,8 @@ pub const KIND_RESET: u8 = sys::AHZ_EVENT_RESET;
 pub const KIND_LATENT_RESET: u8 = sys::AHZ_EVENT_LATENT_RESET;
 /// A latent error test.
 pub const KIND_LATENT_TEST: u8 = sys::AHZ_EVENT_LATENT_TEST;
-/// The setup, the first event and no later one; its 15 octets follow: rule 1, taken 1, history 2,
-/// milliseconds 4, ticks per second 2, paths 1, difference 4.
+/// The setup, the first event and no later one; its 16 octets follow: rule 1, taken 1, use 1 (0
+/// sequence, 1 individual), history 2, milliseconds 4, ticks per second 2, paths 1, difference 4.
 pub const KIND_SETUP: u8 = sys::AHZ_EVENT_SETUP;
 
 /// Octets of the longest tape that is no fault.

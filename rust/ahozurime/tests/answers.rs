@@ -1,7 +1,7 @@
 //! What this package adds to the layer: names, sentences and walks.
 
 use ahozurime::cards::{self, Calibration, Card, Reading};
-use ahozurime::recovery::{Generator, Rule, Setup, State, WORDS};
+use ahozurime::recovery::{Generator, Rule, Setup, State, Usage, WORDS};
 use ahozurime::{frame, streams, tape, version, Version, STACK};
 use ahozurime::{Milliseconds, Millivolts, RawCode, Refusal, TicksPerSecond, Volts};
 use std::collections::BTreeMap;
@@ -37,7 +37,7 @@ fn refusals_have_the_numbers_of_the_paper() {
         Refusal::EVENT_CUT,
         Refusal::TAPE_SETUP,
         Refusal::TAPE_LONG,
-        Refusal::TAKEN,
+        Refusal::TAKEN_OR_USE,
     ];
     assert_eq!(in_order.map(Refusal::number).to_vec(), (1..=27).collect::<Vec<u8>>());
 }
@@ -78,9 +78,9 @@ fn a_refusal_is_shown_with_its_sentence() {
 }
 
 #[test]
-fn the_version_is_one_point_zero() {
-    assert_eq!(version(), Version { major: 1, minor: 0 });
-    assert_eq!(Version::OF_THIS_PACKAGE, Version { major: 1, minor: 0 });
+fn the_version_is_two_point_zero() {
+    assert_eq!(version(), Version { major: 2, minor: 0 });
+    assert_eq!(Version::OF_THIS_PACKAGE, Version { major: 2, minor: 0 });
 }
 
 #[test]
@@ -107,8 +107,8 @@ fn constants_are_those_of_the_paper() {
     assert_eq!(Setup::TIMEOUT, Milliseconds(1)..=Milliseconds(3_600_000));
     assert_eq!(Setup::RATE, TicksPerSecond(1)..=TicksPerSecond(10_000));
     assert_eq!(Setup::PATHS, 2..=8);
-    // The format, seven numbers of the setup, four of the window, eight counters and the base.
-    assert_eq!(WORDS, 21);
+    // The format, eight numbers of the setup, four of the window, eight counters and the base.
+    assert_eq!(WORDS, 22);
     assert_eq!((cards::KIND_END, cards::KIND_FLUSH_ORDER), (0x00, 0x10));
     assert_eq!((cards::KIND_RAW_CODE, cards::KIND_MILLIVOLTS), (0x11, 0x12));
     assert_eq!(cards::FLUSH_ORDER_OCTETS, 5);
@@ -163,24 +163,37 @@ fn readings_end_at_an_end_and_behind_a_refusal() {
     }
 }
 
+const SETUP: Setup = Setup {
+    rule: Rule::Vector,
+    take_tagless: true,
+    usage: Usage::Individual,
+    history: 64,
+    timeout: Milliseconds(3_600_000),
+    rate: TicksPerSecond(10_000),
+    paths: 8,
+    difference: u32::MAX,
+};
+
+#[test]
+fn a_state_keeps_its_setup() {
+    for rule in [Rule::Vector, Rule::Match] {
+        for take_tagless in [false, true] {
+            for usage in [Usage::Sequence, Usage::Individual] {
+                let setup = Setup { rule, take_tagless, usage, ..SETUP };
+                let state = State::fresh(&setup).unwrap();
+                assert_eq!((state.setup(), state.newest()), (setup, None));
+                assert_eq!(State::from_words(*state.words()), Ok(state));
+            }
+        }
+    }
+    let bad = Setup { history: 65, ..SETUP };
+    assert_eq!((bad.check(), State::fresh(&bad)), (Err(Refusal::HISTORY), Err(Refusal::HISTORY)));
+}
+
 #[test]
 fn words_that_hold_no_state_make_none() {
-    let setup = Setup {
-        rule: Rule::Vector,
-        take_tagless: true,
-        history: 64,
-        timeout: Milliseconds(3_600_000),
-        rate: TicksPerSecond(10_000),
-        paths: 8,
-        difference: u32::MAX,
-    };
-    let state = State::fresh(&setup).unwrap();
-    assert_eq!(State::from_words(*state.words()), Ok(state.clone()));
-    assert_eq!((state.setup(), state.newest()), (setup, None));
     assert_eq!(State::from_words([0; WORDS]), Err(Refusal::STATE));
     assert_eq!(State::from_words([u64::MAX; WORDS]), Err(Refusal::STATE));
-    let bad = Setup { history: 65, ..setup };
-    assert_eq!((bad.check(), State::fresh(&bad)), (Err(Refusal::HISTORY), Err(Refusal::HISTORY)));
 }
 
 #[test]

@@ -6,5 +6,7 @@ mod state;
 mod steps;
 
 pub use generator::Generator;
-pub use setup::{full_ticks, Milliseconds, Setup, Ticks, LONGEST_HISTORY, MATCH, VECTOR};
+pub use setup::{
+    full_ticks, Milliseconds, Setup, Ticks, INDIVIDUAL, LONGEST_HISTORY, MATCH, SEQUENCE, VECTOR,
+};
 pub use state::{Counters, State, Verdict};

@@ -1,5 +1,7 @@
 pub const VECTOR: u8 = 0;
 pub const MATCH: u8 = 1;
+pub const SEQUENCE: u8 = 0;
+pub const INDIVIDUAL: u8 = 1;
 pub const SHORTEST_HISTORY: u16 = 2;
 pub const LONGEST_HISTORY: u16 = 64;
 
@@ -27,6 +29,8 @@ pub struct Setup {
     pub rule: u8,
     /// Whether packets without a number are taken: 0 or 1.
     pub taken: u8,
+    /// The use: 0 sequence, 1 individual.
+    pub usage: u8,
     /// H, the history length.
     pub history: u16,
     pub timeout: Milliseconds,
@@ -37,13 +41,14 @@ pub struct Setup {
 }
 
 impl Setup {
-    /// "A setup is checked 15, 27, 16 to 19"; H under match too (*house*).
+    /// "A setup is checked 15, 27, 16 to 19"; 27 for taken, and for the use behind it; H under match
+    /// too (*house*).
     #[inline]
     pub fn check(&self) -> Result<(), u8> {
         if self.rule > MATCH {
             return Err(15);
         }
-        if self.taken > 1 {
+        if self.taken > 1 || self.usage > INDIVIDUAL {
             return Err(27);
         }
         if !(SHORTEST_HISTORY..=LONGEST_HISTORY).contains(&self.history) {

@@ -53,7 +53,7 @@ impl State {
     }
 
     /// The paragraph "Sound state". Under take-any the ticks may still run: a packet without a
-    /// number that passed has set them.
+    /// number has set them, one that passed or, in individual use, one that was discarded.
     #[inline]
     pub fn is_sound(&self) -> bool {
         if self.setup.check().is_err() || self.ticks_left > self.setup.full_ticks() {

@@ -4,7 +4,7 @@
 //! a refused state keeps its values. The steps without their check are for a state that is known to
 //! be sound.
 
-use super::setup::{Ticks, MATCH, VECTOR};
+use super::setup::{Ticks, INDIVIDUAL, MATCH, VECTOR};
 use super::state::{State, Verdict, NEWEST_AT_RESET};
 
 fn count(counter: &mut u64) {
@@ -28,12 +28,13 @@ impl State {
             Some(number) => self.by_vector(number),
         };
         match verdict {
-            Verdict::Pass => {
-                count(&mut self.counters.passed);
-                // "Only a passed packet", one without a number too.
-                self.ticks_left = self.setup.full_ticks();
-            }
+            Verdict::Pass => count(&mut self.counters.passed),
             Verdict::Discard => count(&mut self.counters.discarded),
+        }
+        // The timer's whole rule: a passed packet restarts it, "in individual use a discarded packet
+        // also", and either may be without a number.
+        if verdict == Verdict::Pass || self.setup.usage == INDIVIDUAL {
+            self.ticks_left = self.setup.full_ticks();
         }
         verdict
     }

@@ -2,12 +2,13 @@
 //! number pass once.
 //!
 //! ```
-//! use ahozurime::recovery::{Latent, Rule, Setup, State, Ticked, Verdict};
+//! use ahozurime::recovery::{Latent, Rule, Setup, State, Ticked, Usage, Verdict};
 //! use ahozurime::{Milliseconds, Refusal, TicksPerSecond};
 //!
 //! let setup = Setup {
 //!     rule: Rule::Vector,
 //!     take_tagless: false,
+//!     usage: Usage::Sequence,
 //!     history: 4,
 //!     timeout: Milliseconds(20),
 //!     rate: TicksPerSecond(100),
@@ -41,5 +42,5 @@ mod setup;
 mod state;
 
 pub use generator::Generator;
-pub use setup::{Rule, Setup};
+pub use setup::{Rule, Setup, Usage};
 pub use state::{Counters, Latent, State, Ticked, Verdict, WORDS};

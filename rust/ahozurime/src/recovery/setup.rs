@@ -12,6 +12,45 @@ pub enum Rule {
     Match,
 }
 
+/// What a state recovers, and so what restarts its timer: a packet that passes does in both uses.
+///
+/// ```
+/// use ahozurime::recovery::{Rule, Setup, State, Usage};
+/// use ahozurime::{Milliseconds, Refusal, TicksPerSecond};
+///
+/// // A sender that is stuck on one number sends it at each of 100 ticks. Full ticks are 2.
+/// let passed = |usage| {
+///     let mut state = State::fresh(&Setup {
+///         rule: Rule::Vector,
+///         take_tagless: false,
+///         usage,
+///         history: 4,
+///         timeout: Milliseconds(20),
+///         rate: TicksPerSecond(100),
+///         paths: 2,
+///         difference: 1,
+///     })?;
+///     for _ in 0..100 {
+///         let _ = state.numbered(7)?;
+///         state.tick()?;
+///     }
+///     Ok::<u64, Refusal>(state.counters().passed)
+/// };
+/// assert_eq!(passed(Usage::Sequence)?, 50); // each timeout lets it through once more
+/// assert_eq!(passed(Usage::Individual)?, 1);
+/// # Ok::<(), Refusal>(())
+/// ```
+#[derive(Clone, Copy, Debug, PartialEq, Eq, Hash)]
+pub enum Usage {
+    /// A stream, after its paths have come together. A packet that is discarded leaves the timer
+    /// alone.
+    Sequence,
+    /// One member stream, as one path brings it. A packet that is discarded restarts the timer too,
+    /// whatever it is discarded for: a sender that is stuck on one number is not let through after a
+    /// silence that there never was.
+    Individual,
+}
+
 /// How a stream is recovered. Any values may be put in; [`State::fresh`](super::State::fresh) refuses
 /// those out of range.
 #[derive(Clone, Copy, Debug, PartialEq, Eq, Hash)]
@@ -20,10 +59,12 @@ pub struct Setup {
     pub rule: Rule,
     /// Whether packets without a number pass.
     pub take_tagless: bool,
+    /// What is recovered, and so what restarts the timer.
+    pub usage: Usage,
     /// The history length, within [`HISTORY`](Setup::HISTORY), 2 to 64: how many numbers the window
     /// has.
     pub history: u16,
-    /// Without a packet that passes for so long, any number is taken next: within
+    /// Without a packet that restarts the timer for so long, any number is taken next: within
     /// [`TIMEOUT`](Setup::TIMEOUT), 1 to 3,600,000.
     pub timeout: Milliseconds,
     /// How often [`State::tick`](super::State::tick) is called: within [`RATE`](Setup::RATE), 1 to
@@ -68,8 +109,12 @@ impl Setup {
             Rule::Match => sys::AHZ_RULE_MATCH,
         };
         let taken = if self.take_tagless { sys::AHZ_TAKEN } else { sys::AHZ_NOT_TAKEN };
+        let usage = match self.usage {
+            Usage::Sequence => sys::AHZ_USE_SEQUENCE,
+            Usage::Individual => sys::AHZ_USE_INDIVIDUAL,
+        };
         let Setup { history, timeout, rate, paths, difference, .. } = *self;
-        (rule, taken, history, timeout.0, rate.0, paths, difference)
+        (rule, taken, usage, history, timeout.0, rate.0, paths, difference)
     }
 
     /// The setup in the words of a sound state, which are in range.
@@ -79,6 +124,11 @@ impl Setup {
         Setup {
             rule: if is(sys::AHZ_S_RULE, sys::AHZ_RULE_MATCH) { Rule::Match } else { Rule::Vector },
             take_tagless: is(sys::AHZ_S_TAKEN, sys::AHZ_TAKEN),
+            usage: if is(sys::AHZ_S_USE, sys::AHZ_USE_INDIVIDUAL) {
+                Usage::Individual
+            } else {
+                Usage::Sequence
+            },
             history: words[sys::AHZ_S_HISTORY] as u16,
             timeout: Milliseconds(words[sys::AHZ_S_MILLISECONDS] as u32),
             rate: TicksPerSecond(words[sys::AHZ_S_RATE] as u16),

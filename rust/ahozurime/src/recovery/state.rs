@@ -13,9 +13,10 @@ pub const WORDS: usize = sys::AHZ_S_WORDS;
 #[must_use]
 #[repr(u8)]
 pub enum Verdict {
-    /// It is the first of its number: keep it.
+    /// It is the first of its number: keep it. It restarts the timer.
     Pass = sys::AHZ_PASS,
-    /// It is a repeat, a rogue, or has no number where none is taken.
+    /// It is a repeat, a rogue, or has no number where none is taken. In
+    /// [individual](super::Usage::Individual) use it restarts the timer nevertheless.
     Discard = sys::AHZ_DISCARD,
 }
 
@@ -73,12 +74,13 @@ pub struct Counters {
 /// # Stored and taken up again
 ///
 /// ```
-/// use ahozurime::recovery::{Rule, Setup, State, Verdict};
+/// use ahozurime::recovery::{Rule, Setup, State, Usage, Verdict};
 /// use ahozurime::{Milliseconds, Refusal, TicksPerSecond};
 ///
 /// let setup = Setup {
 ///     rule: Rule::Match,
 ///     take_tagless: true,
+///     usage: Usage::Individual,
 ///     history: 2,
 ///     timeout: Milliseconds(500),
 ///     rate: TicksPerSecond(10),
@@ -280,14 +282,17 @@ impl State {
         self.words[sys::AHZ_S_MARKS]
     }
 
-    /// Whether any number is taken next, as in a fresh state and after a reset.
+    /// Whether any number is taken next, as in a fresh state and after a reset. The timer may run
+    /// nevertheless: a packet without a number leaves this as it is, and restarts the timer where it
+    /// passes or the use is [individual](super::Usage::Individual).
     #[must_use]
     #[inline]
     pub fn take_any(&self) -> bool {
         self.words[sys::AHZ_S_TAKE_ANY] == 1
     }
 
-    /// After so many ticks without a packet that passes, a reset follows; with 0, none does.
+    /// After so many ticks without a packet that restarts the timer, a reset follows; with 0, none
+    /// does. Which packets do, the setup's [`usage`](Setup::usage) says.
     #[must_use]
     #[inline]
     pub fn ticks_left(&self) -> Ticks {

@@ -10,13 +10,15 @@ returns : tie.Need-returns
 unfolding checked setupChecks verdict
 returns c difference =
     let taken = c .before in
-    let history = taken .before in
+    let usage = taken .before in
+    let history = usage .before in
     let time = history .before .before in
     let rate = time .before .before in
     let paths = rate .before .before in
     rw (
-      c .unless6 .ensures,
-      taken .unless5 .ensures,
+      c .unless7 .ensures,
+      taken .unless6 .ensures,
+      usage .unless5 .ensures,
       history .unless4 .ensures,
       history .before .within4 .ensures,
       time .unless3 .ensures,

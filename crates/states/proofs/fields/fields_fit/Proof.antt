@@ -13,29 +13,32 @@ rule c = search needs
 taken : tie.Need-shared-slice-read-result-3
 taken c = search needs
 
-history : tie.Need-shared-slice-read-result-4
+usage : tie.Need-shared-slice-read-result-4
+usage c = search needs
+
+history : tie.Need-shared-slice-read-result-5
 history c = search needs
 
-timeout : tie.Need-shared-slice-read-result-5
+timeout : tie.Need-shared-slice-read-result-6
 timeout c = search needs
 
-rate : tie.Need-shared-slice-read-result-6
+rate : tie.Need-shared-slice-read-result-7
 rate c = search needs
 
-paths : tie.Need-shared-slice-read-result-7
+paths : tie.Need-shared-slice-read-result-8
 paths c = search needs
 
-difference : tie.Need-shared-slice-read-result-8
+difference : tie.Need-shared-slice-read-result-9
 difference c = search needs
 
-newest : tie.Need-shared-slice-read-result-9
+newest : tie.Need-shared-slice-read-result-10
 newest c = search needs
 
-take-any : tie.Need-shared-slice-read-result-10
+take-any : tie.Need-shared-slice-read-result-11
 take-any c = search needs
 
 returns : tie.Need-returns
 returns c = refl
 
 pub fields-fit-spec : {M : Type 1} → statement M
-fields-fit-spec = tie.close (tie.spec format rule taken history timeout rate paths difference newest take-any returns)
+fields-fit-spec = tie.close (tie.spec format rule taken usage history timeout rate paths difference newest take-any returns)

@@ -10,6 +10,9 @@ cast-rule c = search needs
 cast-taken : tie.Need-cast-taken
 cast-taken c = search needs
 
+cast-usage : tie.Need-cast-usage
+cast-usage c = search needs
+
 cast-history : tie.Need-cast-history
 cast-history c = search needs
 
@@ -39,6 +42,7 @@ pack-spec =
       tie.spec,
       cast-rule,
       cast-taken,
+      cast-usage,
       cast-history,
       cast-milliseconds,
       cast-rate,
