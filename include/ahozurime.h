@@ -56,7 +56,7 @@
  *     AHZ_R_TAKEN_OR_USE. The use comes after taken: as an argument, in ahz_setup_t, in the words of a state, of which there are 22, and
  *     in the setup of a tape, which has 16 octets.
  *   Objects of version 1: with one of these calls they do not link, and the 21 words that they lend to a step are refused (14). One that
- *     makes none of these calls and has, copies or reads states is not found out: compile all of a program against one header.
+ *     makes none of these calls and holds, copies or reads states is not found out: compile all of a program against one header.
  *   What version 1 stored: a state is refused (14); a tape that was good is a fault, 16, or 24 where it ends behind its setup.
  *   Sources: a setup whose initialiser names its fields, and not the use, is of sequence use and does what it did. One that lists its
  *     values without names does not compile or, where C lets it, has its history length for a use and is refused (27), since no history

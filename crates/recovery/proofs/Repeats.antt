@@ -1,8 +1,8 @@
 -- The repeats of a stuck sender are discarded in individual use (`specs/Repeats`): each leaves full ticks, so that fewer than these bring
 -- no reset, and a number that was heard just before does not pass. Assumes nothing.
-use Prim.Native.Nat.{ℕ, _+_, _-_, _<_}
-use mathlib.Core.Path.{_≡_, ap}
-use mathlib.Core.Bool.{Bool, true, false, cond, _||_, or-true}
+use Prim.Native.Nat.{ℕ, _+_, _<_}
+use mathlib.Core.Path.{_≡_, refl, sym, ap}
+use mathlib.Core.Bool.{Bool, true, false, cond, or-true}
 use native.Mathlib.Omega.{arith}
 use Rattle.setup.specs.declared.Setup.{Setup}
 use Rattle.setup.specs.Range.{isVector, isIndividual, fullOf}
@@ -14,8 +14,8 @@ use Rattle.recovery.specs.Soundness.{sound}
 use Rattle.recovery.specs.Packets.{numbered, settled, heard, packetOf}
 use Rattle.recovery.specs.Timer.{restarted, tickOf}
 use Rattle.recovery.specs.Repeats.{Repeats, begins, ticks, repeats, RepeatsDiscarded}
-use Rattle.octets.proofs.Bools.{choose-first}
-use Rattle.rules.proofs.Again.{again-stopped}
+use Rattle.rules.proofs.Again.{again-discarded}
+use Rattle.recovery.proofs.TimerLaws.{full-when}
 use Rattle.recovery.proofs.SoundLaws.{Sound, sound-says}
 use Rattle.recovery.proofs.SoundCalls.{packet-answers, tick-answers}
 use Rattle.recovery.proofs.SoundKept.{history-low, history-high, heard-sound, timed-sound}
@@ -25,15 +25,13 @@ use Rattle.recovery.proofs.SpanCalls.{quiet-tick}
 record Stuck (number silence : ℕ) (s : State) : Type 0 where
   still-sound : sound s ≡ true
   individual : isIndividual (s .setup) ≡ true
-  stopped : numbered s number .passes ≡ false
+  discarded : numbered s number .passes ≡ false
   to-go : s .left .0 + silence ≡ fullOf (s .setup) .0
 
 -- "In individual use a discarded packet also restarts the timer"
 restarts : (passes : Bool) (setup : Setup) (left : Left) → isIndividual setup ≡ true → restarted passes setup left .0 ≡ fullOf setup .0
-unfolding restarted
 restarts passes setup left individual =
-    let either-way : (passes || isIndividual setup) ≡ true = rw individual (or-true passes) in
-    ap (λ (l : Left). l .0) (choose-first (record { 0 = fullOf setup .0 }) left either-way)
+    ap (λ (l : Left). l .0) (sym (full-when passes setup left refl (rw individual (or-true passes))))
 
 module _ (number : ℕ) (s : State) (fine : sound s ≡ true) (individual : isIndividual (s .setup) ≡ true) where
   hearing-stuck : Stuck number 0 (packetOf s (Numbered number) .state)
@@ -45,24 +43,24 @@ module _ (number : ℕ) (s : State) (fine : sound s ≡ true) (individual : isIn
       (record {
         still-sound = heard-sound s ok (Numbered number);
         individual = individual;
-        stopped =
-            again-stopped h (history-low s ok) (history-high s ok) number (isVector (s .setup)) (s .«take_any») (s .newest) (s .marks);
+        discarded =
+            again-discarded h (history-low s ok) (history-high s ok) number (isVector (s .setup)) (s .«take_any») (s .newest) (s .marks);
         to-go = omega (arith, restarts (numbered s number .passes) (s .setup) (s .left) individual);
       })
 
 tick-stuck : (number silence : ℕ) (s : State) → Stuck number silence s → silence + 1 < fullOf (s .setup) .0
     → Stuck number (silence + 1) (tickOf s .state)
 unfolding numbered
-tick-stuck number silence s stuck few =
-    let more : s .left .0 ≡ 1 → ⊥ = λ one. omega (arith, stuck .to-go, few) in
-    let quiet = quiet-tick s (stuck .still-sound) more in
-    let sound-after = rw (← tick-answers s (stuck .still-sound), quiet) at (timed-sound s (sound-says s (stuck .still-sound))) in
+tick-stuck number silence s k few =
+    let more : s .left .0 ≡ 1 → ⊥ = λ one. omega (arith, k .to-go, few) in
+    let quiet = quiet-tick s (k .still-sound) more in
+    let sound-after = rw (← tick-answers s (k .still-sound), quiet) at (timed-sound s (sound-says s (k .still-sound))) in
     rw quiet
     (record {
       still-sound = sound-after;
-      individual = stuck .individual;
-      stopped = stuck .stopped;
-      to-go = omega (arith, stuck .to-go, few);
+      individual = k .individual;
+      discarded = k .discarded;
+      to-go = omega (arith, k .to-go, few);
     })
 
 stuck : (number silence : ℕ) (s : State) → Repeats number silence s → Stuck number silence s
@@ -75,4 +73,4 @@ pub repeats-discarded : RepeatsDiscarded
 unfolding heard settled
 repeats-discarded number silence s r before e =
     let k = stuck number silence s before in
-    rw (e, packet-answers s (k .still-sound) (Numbered number)) (ap (λ (t : Bool). cond t Pass Discard) (k .stopped))
+    rw (e, packet-answers s (k .still-sound) (Numbered number)) (ap (λ (t : Bool). cond t Pass Discard) (k .discarded))

@@ -82,8 +82,8 @@ module _ (s : State) (ok : Sound s) where
   unfolding restarted
   left-after P passes full before = either (λ (l : Left). P (l .0)) (passes || isIndividual (s .setup)) (λ _. full) (λ _. before)
 
-  full : 1 ≤ fullOf (s .setup) .0
-  full = full-positive (s .setup) (ok .in-range)
+  full-some : 1 ≤ fullOf (s .setup) .0
+  full-some = full-positive (s .setup) (ok .in-range)
 
   next-sound : (takeAny : Bool) (tagless : ℕ) (effect : Effect) → clearFrom (s .setup .history) (effect .marks) ≡ true
       → (isVector (s .setup) || clearFrom 0 (effect .marks)) ≡ true
@@ -109,7 +109,7 @@ module _ (s : State) (ok : Sound s) where
       next-sound (s .«take_any») 1 effect (rw marks (ok .clear-above)) (rw marks (ok .match-bare))
       (rw (newest, marks)
       (left-after (λ (n : ℕ). awaiting (s .«take_any») bare marked n ≡ true) (effect .passes)
-      (awaits-on (s .«take_any») _ _ (s .left .0) _ full (ok .awaits-rightly))
+      (awaits-on (s .«take_any») _ _ (s .left .0) _ full-some (ok .awaits-rightly))
       (ok .awaits-rightly)))
 
   tagless-sound : After (s .«take_any») 1 (unnumbered (s .setup .taken) (s .newest) (s .marks))
@@ -130,7 +130,7 @@ module _ (s : State) (ok : Sound s) where
   unfolding first restarted
   first-sound number =
       let m = first-marks (isVector (s .setup)) (s .setup .history) history-low history-high in
-      off-sound (first (isVector (s .setup)) number) (m .fits) (m .bare) (m .marked) full
+      off-sound (first (isVector (s .setup)) number) (m .fits) (m .bare) (m .marked) full-some
 
   module _ (off : s .«take_any» ≡ false) where
     when-off : (leb 1 (s .left .0) && (not (isVector (s .setup)) || eqb (mark 0 (s .marks)) 1)) ≡ true
@@ -138,7 +138,7 @@ module _ (s : State) (ok : Sound s) where
     when-off = rw off at (ok .awaits-rightly)
 
     left-some : (passes : Bool) → 1 ≤ restarted passes (s .setup) (s .left) .0
-    left-some passes = left-after (λ (n : ℕ). 1 ≤ n) passes full (leb-true 1 _ (both (leb 1 (s .left .0)) _ when-off .0))
+    left-some passes = left-after (λ (n : ℕ). 1 ≤ n) passes full-some (leb-true 1 _ (both (leb 1 (s .left .0)) _ when-off .0))
 
     vector-sound : (number : ℕ) → isVector (s .setup) ≡ true → After false 0 (vector (s .setup .history) (s .newest) (s .marks) number)
     vector-sound number v =

@@ -8,7 +8,7 @@ use crate::Timed;
 use rules::Effect;
 use setup::Setup;
 
-// Ticks left after a packet, of what it does: one that passes restarts the timer, and in individual use every one does.
+// Ticks left after a packet, from its effect: one that passes restarts the timer, and in individual use every one does.
 pub(crate) fn left_after(e: Effect, setup: Setup, left: Left) -> Left
     ensures { λ r. ⌜ r ≡ restarted (e .passes) setup left ⌝ }
 {

@@ -25,7 +25,7 @@ pub struct Setup {
     pub rate: u16,
     pub paths: u8,
     // what the state is used for: 0 sequence, 1 individual. (`use` is a word of the language.) It is the paper's third number, and stands
-    // here so that a setup is sixteen octets and no gap.
+    // here so that a setup is sixteen octets without a gap.
     pub usage: u8,
     // the latent difference
     pub difference: u32,

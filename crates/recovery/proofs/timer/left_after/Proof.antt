@@ -1,22 +1,10 @@
 -- `timer::left_after` meets its contract: what it asks is what the rule asks. Assumes nothing.
-use mathlib.Core.Path.{_≡_, refl}
-use mathlib.Core.Bool.{Bool, true, false, _||_}
-use Rattle.setup.specs.declared.Setup.{Setup}
-use Rattle.setup.specs.Range.{isIndividual, fullOf}
-use Rattle.recovery.specs.declared.Left.{Left}
-use Rattle.recovery.specs.Timer.{restarted}
+use mathlib.Core.Path.{refl}
+use Rattle.setup.specs.Range.{isIndividual}
+use Rattle.recovery.proofs.TimerLaws.{full-when, left-when}
 use borrow.Author.Needs.{needs}
 use Rattle.recovery.proofs.timer.left_after.Statement.{statement}
 use Rattle.recovery.proofs.timer.left_after.Tie as tie
-
-module _ (passes : Bool) (setup : Setup) (left : Left) {asked : Bool} (same : asked ≡ (passes || isIndividual setup)) where
-  full-when : asked ≡ true → record { 0 = fullOf setup .0 } ≡ restarted passes setup left
-  unfolding restarted
-  full-when holds = rw (← same, holds)
-
-  left-when : asked ≡ false → left ≡ restarted passes setup left
-  unfolding restarted
-  left-when fails = rw (← same, fails)
 
 -- the packet passes, or the use is individual
 returns : tie.Need-returns

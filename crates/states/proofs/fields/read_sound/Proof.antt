@@ -24,7 +24,7 @@ out-of-range w outside =
     (λ yes. absurd (outside (sound-says (stateOf w) (both (held w) _ yes .1) .in-range)))
     (λ none. none)
 
--- and so its use is one
+-- and so its use is 0 or 1
 no-use : (w : List ℕ) → 1 < word 3 w → (held w && sound (stateOf w)) ≡ false
 no-use w over = out-of-range w (λ (met : checked (setupIn w) ≡ 0). omega (arith, over, in-range (setupIn w) met .usage))
 
