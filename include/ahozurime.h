@@ -26,9 +26,9 @@
  *
  * Stack. A call takes at most AHZ_STACK octets, and ahz_tape_v2 at most AHZ_TAPE_STACK; tests/c/stack.c holds both targets to it. In this
  * version it finds 54,216 octets on aarch64 and 54,040 on x86_64 for ahz_tape_v2, what its memcpy and memset take among them, and at most
- * 93 for any other call. The bounds are the archive's own: what memcpy and memset take comes on top, and what the dynamic linker takes where
- * it looks these two up at their first call. On x86_64 the code also writes below its stack pointer, into the red zone of the System V
- * convention.
+ * 93 for any other call. The bounds are the archive's own: what memcpy and memset take comes on top, and what the dynamic linker takes
+ * where it looks these two up at their first call. On x86_64 the code also writes below its stack pointer, into the red zone of the System
+ * V convention.
  *
  * Floating point. Only ahz_volts computes with doubles. It assumes that they are rounded to nearest, that subnormal numbers are not taken
  * for zero, and that no floating-point exception traps; it may raise their flags. Its doubles are handed over in floating-point registers,
@@ -232,7 +232,7 @@ enum {
     AHZ_NOT_TAKEN = 0,         /* packets without a number are discarded */
     AHZ_TAKEN = 1,             /* they pass */
     AHZ_USE_SEQUENCE = 0,      /* for paths that are merged: only a packet that passes restarts the timer */
-    AHZ_USE_INDIVIDUAL = 1,    /* for one path alone: a discarded packet does too, so that the timer does not run out under a stuck sender */
+    AHZ_USE_INDIVIDUAL = 1,    /* for one path alone: a discarded packet restarts it too, as the repeats of a stuck sender do */
     AHZ_HISTORY_LEAST = 2,
     AHZ_HISTORY_MOST = 64,
     AHZ_MILLISECONDS_LEAST = 1,

@@ -10,7 +10,8 @@ use Rattle.setup.specs.Conversion.{Converts, Counts}
 use Rattle.setup.specs.Range.{ChecksNumbers, ChecksSetup, GivesFull}
 
 pub makes-one : (rule taken usage history milliseconds rate paths difference : ℕ) {a b : Setup}
-    → Makes rule taken usage history milliseconds rate paths difference a → Makes rule taken usage history milliseconds rate paths difference b
+    → Makes rule taken usage history milliseconds rate paths difference a
+    → Makes rule taken usage history milliseconds rate paths difference b
     → a ≡ b
 makes-one rule taken usage history milliseconds rate paths difference = one
 
@@ -21,7 +22,8 @@ pub counts-one : (ticks : Ticks) {a b : ℕ} → Counts ticks a → Counts ticks
 counts-one ticks = one
 
 pub checks-numbers-one : (rule taken usage history milliseconds rate paths : ℕ) {a b : ℕ}
-    → ChecksNumbers rule taken usage history milliseconds rate paths a → ChecksNumbers rule taken usage history milliseconds rate paths b
+    → ChecksNumbers rule taken usage history milliseconds rate paths a
+    → ChecksNumbers rule taken usage history milliseconds rate paths b
     → a ≡ b
 checks-numbers-one rule taken usage history milliseconds rate paths p q = one (p 0) (q 0)
 
