@@ -22,11 +22,11 @@
  * run in several threads at once, and in an interrupt that breaks into another call, on memory of their own: what one of them writes
  * must not be lent to another meanwhile.
  *
- * From outside the archive needs memcpy and memset, and nothing else. Only ahz_tape_v2 uses them.
+ * From outside the archive needs memcpy and memset, and nothing else. Only ahz_tape_v3 uses them.
  *
- * Stack. A call takes at most AHZ_STACK octets, and ahz_tape_v2 at most AHZ_TAPE_STACK; tests/c/stack.c holds both targets to it. In this
- * version it finds 54,216 octets on aarch64 and 54,040 on x86_64 for ahz_tape_v2, what its memcpy and memset take among them, and at most
- * 93 for any other call. The bounds are the archive's own: what memcpy and memset take comes on top, and what the dynamic linker takes
+ * Stack. A call takes at most AHZ_STACK octets, and ahz_tape_v3 at most AHZ_TAPE_STACK; tests/c/stack.c holds both targets to it. In this
+ * version it finds 54,320 octets on aarch64 and 54,040 on x86_64 for ahz_tape_v3, what its memcpy and memset take among them, and at most
+ * 96 for any other call. The bounds are the archive's own: what memcpy and memset take comes on top, and what the dynamic linker takes
  * where it looks these two up at their first call. On x86_64 the code also writes below its stack pointer, into the red zone of the System
  * V convention.
  *
@@ -47,25 +47,32 @@
  * meaning is changed or gone, the words of a state among them; MINOR is then 0 again. MINOR goes up where something is only added. So an
  * archive fits a program where its MAJOR is that of the program's header and its MINOR is not less: ahz_version_fits.
  *
- * What was compiled against an older header must not link and mean something else. So a call whose arguments, or the octets lent to it, get
- * another meaning gets a new name, with the MAJOR since which it is so, and the old name is gone. The words of a state have their format
- * for this, and the steps on it keep their names.
+ * What was compiled against an older header must not link and mean something else. So a call whose arguments, or the octets or words lent
+ * to it, get another meaning gets a new name, with the MAJOR since which it is so, and the old name is gone. The words of a state have
+ * their format for this, and the steps on it keep their names: a state that an older version stored, and the fewer words that an older
+ * object lends, are refused (14). Not found out is an older object that only holds, copies or reads states or counters, and in C++ one
+ * whose typed forms the linker joins with a newer object's: compile all of a program against one header.
  *
  * From 1 to 2 a setup got a use, AHZ_USE_SEQUENCE or AHZ_USE_INDIVIDUAL: whether a discarded packet restarts the timer too.
- *   Names: ahz_check_setup, ahz_fresh and ahz_tape are now ahz_check_setup_v2, ahz_fresh_v2 and ahz_tape_v2, and AHZ_R_TAKEN is now
- *     AHZ_R_TAKEN_OR_USE. The use comes after taken: as an argument, in ahz_setup_t, in the words of a state, of which there are 22, and
+ *   Names: ahz_check_setup, ahz_fresh and ahz_tape became ahz_check_setup_v2, ahz_fresh_v2 and ahz_tape_v2, and AHZ_R_TAKEN became
+ *     AHZ_R_TAKEN_OR_USE. The use comes after taken: as an argument, in ahz_setup_t, in the words of a state, of which there were 21, and
  *     in the setup of a tape, which has 16 octets.
- *   Objects of version 1: with one of these calls they do not link, and the 21 words that they lend to a step are refused (14). One that
- *     makes none of these calls and holds, copies or reads states is not found out: compile all of a program against one header.
- *   What version 1 stored: a state is refused (14); a tape that was good is a fault, 16, or 24 where it ends behind its setup.
+ *   Tapes of version 1: one that was good is a fault, 16, or 24 where it ends behind its setup.
  *   Sources: a setup whose initialiser names its fields, and not the use, is of sequence use and does what it did. One that lists its
  *     values without names does not compile or, where C lets it, has its history length for a use and is refused (27), since no history
- *     length is below 2. One that is filled field by field has to be given a use. */
-#define AHZ_VERSION_MAJOR 2
+ *     length is below 2. One that is filled field by field has to be given a use.
+ *
+ * From 2 to 3 a state got a ninth counter, before-first, and keeps for it where in the window the first packet's place stands.
+ *   Names: ahz_fresh_v2 and ahz_tape_v2 are now ahz_fresh_v3 and ahz_tape_v3, with the arguments that they had. A state has 24 words and
+ *     had 22: AHZ_S_FIRST comes after the marks, and AHZ_S_BEFORE_FIRST after the other counters, as before_first in ahz_counters_t.
+ *   Tapes of version 2 run as they did; the last line of the output ends with ` before-first=N`, and AHZ_TAPE_OUTPUT is so much larger.
+ *   Sources: one that has AHZ_S_.. for words and AHZ_S_WORDS for their count needs the two names and nothing else. One that has 22 is
+ *     refused, by 8 for a fresh state and by 14 for a step. */
+#define AHZ_VERSION_MAJOR 3
 #define AHZ_VERSION_MINOR 0
 #define AHZ_VERSION (AHZ_VERSION_MAJOR * 65536u + AHZ_VERSION_MINOR)
 
-/* Octets of stack that are enough for ahz_tape_v2, and for every other call. */
+/* Octets of stack that are enough for ahz_tape_v3, and for every other call. */
 #define AHZ_TAPE_STACK 54784
 #define AHZ_STACK 256
 
@@ -252,9 +259,9 @@ AHZ_USE_ANSWER uint64_t ahz_ticks(uint32_t milliseconds, uint16_t rate);
 AHZ_USE_ANSWER uint8_t ahz_check_setup_v2(uint8_t rule, uint8_t taken, uint8_t use, uint16_t history, uint32_t milliseconds, uint16_t rate,
                                           uint8_t paths, uint32_t difference);
 
-/* The first word of a state: "AHZ", and 2. It changes whenever the words of a state or their meaning change, so that a state that another
+/* The first word of a state: "AHZ", and 3. It changes whenever the words of a state or their meaning change, so that a state that another
  * version stored, or a machine of the other byte order, is refused (14) and never misread. */
-#define AHZ_STATE_FORMAT 0x41485A02
+#define AHZ_STATE_FORMAT 0x41485A03
 
 /* The words of a state. A state that a call wrote may be kept, copied or stored by its words. It is the first AHZ_S_WORDS words of what is
  * lent; later ones are neither looked at nor changed. To check words that were stored, call ahz_latent_test: it changes nothing and refuses
@@ -272,39 +279,42 @@ enum {
     AHZ_S_DIFFERENCE = 8,      /* below 2^32 */
     AHZ_S_NEWEST = 9,          /* the newest number, below 2^16 */
     AHZ_S_MARKS = 10,          /* bit k is mark k: the number k below the newest has passed; mark 0 is the newest */
-    AHZ_S_TAKE_ANY = 11,       /* 0 or 1 */
-    AHZ_S_LEFT = 12,           /* ticks left */
-    AHZ_S_PASSED = 13,         /* the eight counters; they wrap */
-    AHZ_S_DISCARDED = 14,
-    AHZ_S_ORDER = 15,
-    AHZ_S_ROGUE = 16,
-    AHZ_S_LOST = 17,
-    AHZ_S_TAGLESS = 18,
-    AHZ_S_RESETS = 19,
-    AHZ_S_LATENT_RESETS = 20,
-    AHZ_S_BASE = 21,           /* the latent base, modulo 2^64 */
-    AHZ_S_WORDS = 22
+    AHZ_S_FIRST = 11,          /* 1 + k: the first packet's place is that of mark k; 0: none of the window's places is */
+    AHZ_S_TAKE_ANY = 12,       /* 0 or 1 */
+    AHZ_S_LEFT = 13,           /* ticks left */
+    AHZ_S_PASSED = 14,         /* the nine counters; they wrap */
+    AHZ_S_DISCARDED = 15,
+    AHZ_S_ORDER = 16,
+    AHZ_S_ROGUE = 17,
+    AHZ_S_LOST = 18,
+    AHZ_S_TAGLESS = 19,
+    AHZ_S_RESETS = 20,
+    AHZ_S_LATENT_RESETS = 21,
+    AHZ_S_BEFORE_FIRST = 22,   /* those of lost that lie below the first packet's place */
+    AHZ_S_BASE = 23,           /* the latent base, modulo 2^64 */
+    AHZ_S_WORDS = 24
 };
 
 /* Writes a fresh state of that setup to the first AHZ_S_WORDS words of state; later ones stay. Answers 0. Fresh: newest 65,535, no mark,
- * take-any, no ticks left, counters and base 0.
+ * no first place, take-any, no ticks left, counters and base 0.
  * Refusals, in this order: 15, 27, 16, 17, 18, 19 as ahz_check_setup_v2; 8 where state_words is less than AHZ_S_WORDS. */
-AHZ_USE_ANSWER uint8_t ahz_fresh_v2(uint8_t rule, uint8_t taken, uint8_t use, uint16_t history, uint32_t milliseconds, uint16_t rate,
+AHZ_USE_ANSWER uint8_t ahz_fresh_v3(uint8_t rule, uint8_t taken, uint8_t use, uint16_t history, uint32_t milliseconds, uint16_t rate,
                                     uint8_t paths, uint32_t difference, uint64_t *state, size_t state_words);
 
 /* Each of these refuses by 14 alone: state_words is less than AHZ_S_WORDS, the first word is not AHZ_STATE_FORMAT, a word is one that its
  * field cannot hold, or the state is not sound (setup in range; marks at the history length and above clear; take-any means newest 65,535
- * and no mark; otherwise ticks left are 1 or more, and mark 0 is set under vector; match has no mark; ticks left are not above full ticks).
+ * and no mark; otherwise ticks left are 1 or more, and mark 0 is set under vector; match has no mark; a first place in the window has its
+ * mark set, and take-any and match have none; ticks left are not above full ticks).
  * The words afterwards are the next state. A program that hands in only states that a call wrote never sees 14. */
 
 /* A packet with a number: AHZ_PASS, and passed +1, or AHZ_DISCARD, and discarded +1. One that passes sets ticks left to full ticks; in
  * individual use one that is discarded, for whatever reason, does too.
- * Take-any: it passes and is the newest, with mark 0 under vector; take-any is off.
+ * Take-any: it passes and is the newest; take-any is off. Under vector it has mark 0, and its place is the first place until a reset.
  * Otherwise d is its number less the newest modulo 65,536, read from -32,768 to 32,767. Under vector, with history length H:
  *   d >= H or d <= -H: rogue +1, discarded;
  *   d <= 0: discarded where mark -d is set; else that mark is set, order +1, passed;
- *   d > 0: order +1 unless d is 1; the marks move d places, and lost +1 for each clear one that leaves the window; it is the newest, with
- *     mark 0, passed.
+ *   d > 0: order +1 unless d is 1; the marks move d places, and the first place with them; for each clear mark that leaves the window
+ *     lost +1, and before-first +1 too where it lies below the first place; it is the newest, with mark 0, passed.
  * Under match: discarded where d is 0; else order +1 unless d is 1, it is the newest, passed. */
 AHZ_USE_ANSWER uint8_t ahz_numbered(uint64_t *state, size_t state_words, uint16_t number);
 
@@ -368,13 +378,13 @@ enum {
 
 /* Octets of the longest tape that is no fault, and octets that hold the output of every tape. */
 #define AHZ_TAPE_LONGEST 4096
-#define AHZ_TAPE_OUTPUT 53479
+#define AHZ_TAPE_OUTPUT 53513
 
 /* Runs a bench tape and writes its lines to the start of out, and how many octets they are to length. Later octets of out stay. Answers 0.
  * A line for each event, and one with the counters at the end; each ends with a newline. A fault of the tape, AHZ_FAULT_.. or a refusal of
  * its setup, is the line `fault N` and the last one. So every tape has an output.
  * It takes AHZ_TAPE_STACK octets of stack. Refusal: 8 where out is shorter than the output. */
-AHZ_USE_ANSWER uint8_t ahz_tape_v2(const uint8_t *tape, size_t tape_octets, uint8_t *out, size_t out_octets, size_t *length);
+AHZ_USE_ANSWER uint8_t ahz_tape_v3(const uint8_t *tape, size_t tape_octets, uint8_t *out, size_t out_octets, size_t *length);
 
 #ifdef __cplusplus
 }
@@ -462,7 +472,8 @@ typedef struct {
     uint16_t next;
 } ahz_generator_t;
 
-/* The eight counters of a state. */
+/* The nine counters of a state. lost counts each place that left the window before a packet passed there, and before_first those of them
+ * below the place of the first packet after a start or a reset. So lost - before_first, modulo 2^64, is what was really missed. */
 typedef struct {
     uint64_t passed;
     uint64_t discarded;
@@ -472,6 +483,7 @@ typedef struct {
     uint64_t tagless;
     uint64_t resets;
     uint64_t latent_resets;
+    uint64_t before_first;
 } ahz_counters_t;
 
 /* What was read of a frame. */
@@ -618,9 +630,9 @@ AHZ_USE_ANSWER AHZ_INLINE uint8_t ahz_setup_check(ahz_setup_t setup) {
                               setup.difference);
 }
 
-/* ahz_fresh_v2. */
+/* ahz_fresh_v3. */
 AHZ_USE_ANSWER AHZ_INLINE uint8_t ahz_state_fresh(ahz_state_t *state, ahz_setup_t setup) {
-    return ahz_fresh_v2(setup.rule, setup.taken, setup.use, setup.history, setup.timeout.ms, setup.rate.per_second, setup.paths,
+    return ahz_fresh_v3(setup.rule, setup.taken, setup.use, setup.history, setup.timeout.ms, setup.rate.per_second, setup.paths,
                         setup.difference, state->words, AHZ_S_WORDS);
 }
 
@@ -679,6 +691,7 @@ AHZ_USE_ANSWER AHZ_INLINE ahz_counters_t ahz_state_counters(const ahz_state_t *s
     counters.tagless = state->words[AHZ_S_TAGLESS];
     counters.resets = state->words[AHZ_S_RESETS];
     counters.latent_resets = state->words[AHZ_S_LATENT_RESETS];
+    counters.before_first = state->words[AHZ_S_BEFORE_FIRST];
     return counters;
 }
 
@@ -699,6 +712,14 @@ AHZ_USE_ANSWER AHZ_INLINE int ahz_state_newest(const ahz_state_t *state, uint16_
 /* Its marks, bit k for mark k: */
 AHZ_USE_ANSWER AHZ_INLINE uint64_t ahz_state_marks(const ahz_state_t *state) {
     return state->words[AHZ_S_MARKS];
+}
+
+/* 1, and in below how many places below the newest the first packet's place stands, 0 where it is the newest; or 0 where it stands in the
+ * window no more, or never did, and below stays: */
+AHZ_USE_ANSWER AHZ_INLINE int ahz_state_first(const ahz_state_t *state, uint16_t *below) {
+    if (state->words[AHZ_S_FIRST] == 0) return 0;
+    *below = AHZ_CAST(uint16_t, state->words[AHZ_S_FIRST] - 1);
+    return 1;
 }
 
 /* Its latent base, modulo 2^64: */

@@ -19,7 +19,7 @@ REAL(ahz_generate);
 REAL(ahz_generator_reset);
 REAL(ahz_ticks);
 REAL(ahz_check_setup_v2);
-REAL(ahz_fresh_v2);
+REAL(ahz_fresh_v3);
 REAL(ahz_numbered);
 REAL(ahz_tagless);
 REAL(ahz_tick);
@@ -30,7 +30,7 @@ REAL(ahz_card);
 REAL(ahz_card_octets);
 REAL(ahz_rest_octets);
 REAL(ahz_volts);
-REAL(ahz_tape_v2);
+REAL(ahz_tape_v3);
 
 static const char *chosen = "";
 static volatile uint8_t looked_at;
@@ -186,11 +186,11 @@ uint8_t ahz_check_setup_v2(uint8_t rule, uint8_t taken, uint8_t use, uint16_t hi
     return fault("use-checked-last") && answer == AHZ_DONE && use > AHZ_USE_INDIVIDUAL ? AHZ_R_TAKEN_OR_USE : answer;
 }
 
-uint8_t ahz_fresh_v2(uint8_t rule, uint8_t taken, uint8_t use, uint16_t history, uint32_t milliseconds, uint16_t rate, uint8_t paths,
+uint8_t ahz_fresh_v3(uint8_t rule, uint8_t taken, uint8_t use, uint16_t history, uint32_t milliseconds, uint16_t rate, uint8_t paths,
                      uint32_t difference, uint64_t *state, size_t state_words)
 {
     const int two = fault("use-2-fresh") && use == 2;
-    uint8_t answer = real_ahz_fresh_v2(rule, taken, two ? AHZ_USE_SEQUENCE : use, history, milliseconds, rate, paths, difference, state,
+    uint8_t answer = real_ahz_fresh_v3(rule, taken, two ? AHZ_USE_SEQUENCE : use, history, milliseconds, rate, paths, difference, state,
                                        state_words);
 
     if (two && answer == AHZ_DONE)
@@ -200,6 +200,42 @@ uint8_t ahz_fresh_v2(uint8_t rule, uint8_t taken, uint8_t use, uint16_t history,
     if (fault("short-as-unsound") && answer == AHZ_R_OUTPUT_SHORT)
         return AHZ_R_STATE;
     return answer;
+}
+
+/* A slide by d also moves the first packet's place on, until it leaves, and counts those of the lost places that lie below it. Each fault
+ * is a mistake in what is counted, or in where the place then stands. */
+static void slide_first(uint64_t *state, const uint64_t *before, uint64_t d)
+{
+    const uint64_t h = before[AHZ_S_HISTORY], marks = before[AHZ_S_MARKS], first = before[AHZ_S_FIRST];
+    const uint64_t more = state[AHZ_S_BEFORE_FIRST] - before[AHZ_S_BEFORE_FIRST];
+
+    if (fault("before-all"))
+        state[AHZ_S_BEFORE_FIRST] += state[AHZ_S_LOST] - before[AHZ_S_LOST] - more;
+    if (fault("before-none"))
+        state[AHZ_S_BEFORE_FIRST] -= more;
+    if (fault("before-twice"))
+        state[AHZ_S_BEFORE_FIRST] += more;
+    if (fault("before-sticks") && state[AHZ_S_BEFORE_FIRST] < before[AHZ_S_BEFORE_FIRST])
+        state[AHZ_S_BEFORE_FIRST] = UINT64_MAX;
+    if (fault("lost-above-only"))
+        state[AHZ_S_LOST] -= more;
+    if (first == 0)
+        return;
+    /* The place has the mark first - 1, and leaves where that is h - d or above. */
+    if (fault("before-late-too"))
+        state[AHZ_S_BEFORE_FIRST] += (first > h - d ? h - first : d) - more;
+    if (fault("before-at-first"))
+        state[AHZ_S_BEFORE_FIRST] += first > h - d;
+    if (fault("before-above-first"))
+        state[AHZ_S_BEFORE_FIRST] += first > h - d + 1 && !(marks >> (first - 2) & 1);
+    if (fault("before-next-missed"))
+        state[AHZ_S_BEFORE_FIRST] -= first >= h - d && first < h && !(marks >> first & 1);
+    if (fault("first-stands"))
+        state[AHZ_S_FIRST] = first;
+    if (fault("first-stays"))
+        state[AHZ_S_FIRST] = first + d;
+    if (fault("first-leaves-early") && state[AHZ_S_FIRST] == h)
+        state[AHZ_S_FIRST] = 0;
 }
 
 /* A packet that passed may have slid the window by d: the marks from h - d on left, and those that were clear are lost. Each fault is a
@@ -231,6 +267,20 @@ static void slide(uint64_t *state, const uint64_t *before, uint16_t number)
         state[AHZ_S_MARKS] = marks << d | 1;
     if (fault("mask-of-64-is-0") && h == 64)
         state[AHZ_S_MARKS] = 1;
+    slide_first(state, before, d);
+}
+
+/* A first place that has to be refused is taken for none, or for the one that the low bits of its word name. */
+static void first_let_through(uint64_t *state)
+{
+    const uint64_t first = state[AHZ_S_FIRST];
+
+    if (fault("first-16-bits"))
+        state[AHZ_S_FIRST] = (uint16_t)first;
+    if ((fault("first-unmarked") && first - 1 < 64 && !(state[AHZ_S_MARKS] >> (first - 1) & 1)) ||
+        (fault("first-beyond") && first > state[AHZ_S_HISTORY]) || (fault("first-at-take-any") && state[AHZ_S_TAKE_ANY] == 1) ||
+        (fault("first-at-match") && state[AHZ_S_RULE] == AHZ_RULE_MATCH))
+        state[AHZ_S_FIRST] = 0;
 }
 
 /* A packet that was discarded has restarted the timer in individual use, and left it alone in sequence use. Each fault is a mistake in
@@ -266,11 +316,12 @@ uint8_t ahz_numbered(uint64_t *state, size_t state_words, uint16_t number)
         state[AHZ_S_MARKS] &= (UINT64_C(1) << state[AHZ_S_HISTORY]) - 1;
     if (fault("use-2-in-a-state") && state[AHZ_S_USE] == 2)
         state[AHZ_S_USE] = AHZ_USE_SEQUENCE;
+    first_let_through(state);
     answer = real_ahz_numbered(state, state_words, number);
     state[AHZ_S_FORMAT] = before[AHZ_S_FORMAT];
     state[AHZ_S_USE] = before[AHZ_S_USE];
     if (answer == AHZ_R_STATE)
-        state[AHZ_S_MARKS] = before[AHZ_S_MARKS];
+        memcpy(state, before, sizeof before);
     if (answer == AHZ_DISCARD)
         timer(state, before);
     if (answer != AHZ_PASS)
@@ -285,6 +336,12 @@ uint8_t ahz_numbered(uint64_t *state, size_t state_words, uint16_t number)
         state[AHZ_S_LEFT] = state[AHZ_S_MILLISECONDS] * state[AHZ_S_RATE] / 1000;
     if (fault("mark-forgotten") && state[AHZ_S_NEWEST] != number)
         state[AHZ_S_MARKS] = before[AHZ_S_MARKS];
+    if (fault("late-as-first") && state[AHZ_S_FIRST] != 0 && (uint16_t)(state[AHZ_S_NEWEST] - number) >= state[AHZ_S_FIRST])
+        state[AHZ_S_FIRST] = (uint16_t)(state[AHZ_S_NEWEST] - number) + 1u;
+    if (fault("first-not-kept") && before[AHZ_S_TAKE_ANY] == 1)
+        state[AHZ_S_FIRST] = 0;
+    if (fault("match-keeps-first") && state[AHZ_S_RULE] == AHZ_RULE_MATCH)
+        state[AHZ_S_FIRST] = 1;
     slide(state, before, number);
     return answer;
 }
@@ -308,6 +365,7 @@ uint8_t ahz_tagless(uint64_t *state, size_t state_words)
 uint8_t ahz_tick(uint64_t *state, size_t state_words)
 {
     const int takes_any = state_words >= AHZ_S_WORDS && state[AHZ_S_TAKE_ANY] == 1;
+    const uint64_t first = state_words >= AHZ_S_WORDS ? state[AHZ_S_FIRST] : 0;
     uint8_t answer;
 
     if (fault("longer-refused") && state_words > AHZ_S_WORDS)
@@ -317,19 +375,33 @@ uint8_t ahz_tick(uint64_t *state, size_t state_words)
     answer = real_ahz_tick(state, state_words);
     if (fault("reset-not-counted") && takes_any && answer == AHZ_RESET)
         state[AHZ_S_RESETS] -= 1;
+    if (fault("first-after-tick") && answer == AHZ_RESET)
+        state[AHZ_S_FIRST] = first;
     return answer;
 }
 
 uint8_t ahz_reset(uint64_t *state, size_t state_words)
 {
+    const uint64_t first = state_words >= AHZ_S_WORDS ? state[AHZ_S_FIRST] : 0;
+    uint8_t answer;
+
     if (fault("later-word") && state_words > AHZ_S_WORDS)
         state[AHZ_S_WORDS] = 0;
-    return real_ahz_reset(state, state_words);
+    answer = real_ahz_reset(state, state_words);
+    if (fault("first-after-reset") && answer == AHZ_DONE)
+        state[AHZ_S_FIRST] = first;
+    if (fault("before-cleared") && answer == AHZ_DONE)
+        state[AHZ_S_BEFORE_FIRST] = 0;
+    return answer;
 }
 
 uint8_t ahz_latent_reset(uint64_t *state, size_t state_words)
 {
-    return real_ahz_latent_reset(state, state_words);
+    uint8_t answer = real_ahz_latent_reset(state, state_words);
+
+    if (fault("latent-drops-first") && answer == AHZ_DONE)
+        state[AHZ_S_FIRST] = 0;
+    return answer;
 }
 
 uint8_t ahz_latent_test(const uint64_t *state, size_t state_words)
@@ -396,16 +468,20 @@ static size_t misread(const uint8_t *tape, size_t octets, uint8_t *other)
     return 0;
 }
 
-uint8_t ahz_tape_v2(const uint8_t *tape, size_t tape_octets, uint8_t *out, size_t out_octets, size_t *length)
+uint8_t ahz_tape_v3(const uint8_t *tape, size_t tape_octets, uint8_t *out, size_t out_octets, size_t *length)
 {
     uint8_t answer, other[AHZ_TAPE_LONGEST];
     size_t octets = misread(tape, tape_octets, other);
 
     if (octets > 0)
-        return real_ahz_tape_v2(other, octets, out, out_octets, length);
-    answer = real_ahz_tape_v2(tape, tape_octets, out, out_octets, length);
+        return real_ahz_tape_v3(other, octets, out, out_octets, length);
+    answer = real_ahz_tape_v3(tape, tape_octets, out, out_octets, length);
     if (fault("last-newline") && answer == AHZ_DONE)
         *length -= 1;
+    if (fault("eight-counters") && answer == AHZ_DONE && out[*length - 3] == '=') {
+        *length -= strlen(" before-first=0");
+        out[*length - 1] = '\n';
+    }
     if (fault("cut-as-repeated") && answer == AHZ_DONE && *length > 9 && memcmp(out + *length - 9, "fault 24\n", 9) == 0)
         out[*length - 2] = '5';
     return answer;

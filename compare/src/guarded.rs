@@ -27,9 +27,9 @@ const WORDS: usize = 32;
 const NUMBERS: usize = 8;
 
 /// The same for the output of a tape: no octet of a tape prints more than 13, and the last line has
-/// at most 231.
+/// at most 265.
 fn octets_of_a_tape(tape: &[u8]) -> usize {
-    13 * tape.len().min(4_096) + 256
+    13 * tape.len().min(4_096) + 265
 }
 
 /// What lies there. No two neighbours are alike, and no number is a small one.
@@ -227,7 +227,7 @@ pub fn remove(frame: &[u8], out: &[u8], length: usize) -> (u8, Vec<u8>, usize) {
 /// The answer, the output and the length.
 pub fn tape(tape: &[u8], out: &[u8], length: usize) -> (u8, Vec<u8>, usize) {
     writes(tape, out, length, octets_of_a_tape(tape), |at, output, told| unsafe {
-        sys::ahz_tape_v2(at, tape.len(), output, out.len(), told)
+        sys::ahz_tape_v3(at, tape.len(), output, out.len(), told)
     })
 }
 
@@ -291,7 +291,7 @@ pub fn fresh(setup: SetupNumbers, state: &[u64]) -> (u8, Vec<u64>) {
     let (rule, taken, usage, history, ms, rate, paths, difference) = setup;
     let words = state.len();
     steps(state, |at| unsafe {
-        sys::ahz_fresh_v2(rule, taken, usage, history, ms, rate, paths, difference, at, words)
+        sys::ahz_fresh_v3(rule, taken, usage, history, ms, rate, paths, difference, at, words)
     })
 }
 

@@ -359,12 +359,22 @@ pub fn raw_event(words: &[u64], event: Event) -> (u8, Vec<u64>) {
 
 /// What the package shows of a state.
 fn held(state: &safe::State) -> State {
-    let safe::Counters { passed, discarded, order, rogue, lost, tagless, resets, latent_resets } =
-        state.counters();
+    let safe::Counters {
+        passed,
+        discarded,
+        order,
+        rogue,
+        lost,
+        tagless,
+        resets,
+        latent_resets,
+        before_first,
+    } = state.counters();
     State {
         setup: untyped(&state.setup()),
         newest: state.newest().unwrap_or(65_535),
         marks: state.marks(),
+        first: state.first_below(),
         take_any: state.take_any(),
         ticks_left: Ticks(state.ticks_left().count()),
         counters: Counters {
@@ -376,6 +386,7 @@ fn held(state: &safe::State) -> State {
             tagless,
             resets,
             latent_resets,
+            before_first,
         },
         base: state.base(),
     }

@@ -5,10 +5,10 @@ use crate::plain::frame::Header;
 use crate::plain::recovery::{Counters, Setup, State};
 
 pub const HEADER: usize = 8;
-pub const STATE: usize = 22;
+pub const STATE: usize = 24;
 
-/// "AHZ" and 2.
-pub const FORMAT: u64 = 0x4148_5A02;
+/// "AHZ" and 3.
+pub const FORMAT: u64 = 0x4148_5A03;
 
 /// A setup's eight numbers.
 pub type SetupNumbers = (u8, u8, u8, u16, u32, u16, u8, u32);
@@ -39,8 +39,17 @@ pub fn of_header(header: &Header) -> [u64; HEADER] {
 pub fn of_state(state: &State) -> [u64; STATE] {
     let (rule, taken, usage, history, timeout, ticks_per_second, paths, difference) =
         of_setup(&state.setup);
-    let Counters { passed, discarded, order, rogue, lost, tagless, resets, latent_resets } =
-        state.counters;
+    let Counters {
+        passed,
+        discarded,
+        order,
+        rogue,
+        lost,
+        tagless,
+        resets,
+        latent_resets,
+        before_first,
+    } = state.counters;
     [
         FORMAT,
         rule.into(),
@@ -53,6 +62,7 @@ pub fn of_state(state: &State) -> [u64; STATE] {
         difference.into(),
         state.newest.into(),
         state.marks,
+        state.first.map_or(0, |mark| u64::from(mark) + 1),
         state.take_any.into(),
         state.ticks_left.0,
         passed,
@@ -63,6 +73,7 @@ pub fn of_state(state: &State) -> [u64; STATE] {
         tagless,
         resets,
         latent_resets,
+        before_first,
         state.base as u64,
     ]
 }

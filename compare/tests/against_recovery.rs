@@ -5,7 +5,7 @@ mod common;
 
 use ahozurime::recovery as safe;
 use ahozurime::Refusal;
-use ahozurime_sys::{AHZ_LATENT_ERROR, AHZ_LATENT_OK, AHZ_S_USE};
+use ahozurime_sys::{AHZ_LATENT_ERROR, AHZ_LATENT_OK, AHZ_S_BEFORE_FIRST, AHZ_S_FIRST, AHZ_S_USE};
 use common::report;
 use compare::layers::{
     self, check_setup, event, events, fresh_into, raw_event, Event, Kept, RULES, USES,
@@ -110,7 +110,7 @@ fn setups_of_every_value() {
 /// number before it looks at how many there are.
 fn same_setup(random: &mut Random, setup: &Setup) -> u64 {
     let _ = check_setup(setup);
-    for count in [0, 1, 21, 22, 23, 40] {
+    for count in [0, 22, 23, 24, 25, 40] {
         let lent: Vec<u64> = (0..count).map(|_| random.next_u64()).collect();
         let _ = fresh_into(setup, &lent);
     }
@@ -216,22 +216,26 @@ fn random_state(random: &mut Random) -> State {
         tagless: counter(),
         resets: counter(),
         latent_resets: counter(),
+        before_first: counter(),
     };
     let base = counter() as i64;
     let about_16_bits = random.between(65_534, 65_538) as u64;
     let least = u64::from(!take_any);
     let left = [least, 1, full, full.saturating_sub(1), full / 2 + 1, about_16_bits.min(full)];
+    let any = random.below(setup.history.clamp(1, LONGEST_HISTORY).into()) as u16;
+    let marked = (marks >> any & 1 == 1).then_some(any);
     let mut state = State {
         setup,
         newest: if take_any { 65_535 } else { random.number() },
         marks,
+        first: marked.filter(|_| !random.once_in(4)),
         take_any,
         ticks_left: Ticks(random.pick(&left)),
         counters,
         base,
     };
     // One respect more in which it may be unsound.
-    match random.below(12) {
+    match random.below(16) {
         0 => state.marks ^= 1,
         1 => state.marks |= 1 << random.below(64),
         2 => state.newest = random.number(),
@@ -239,6 +243,8 @@ fn random_state(random: &mut Random) -> State {
         4 => state.ticks_left = Ticks(random.next_u64()),
         5 => state.ticks_left = Ticks(0),
         6 => state.take_any = !state.take_any,
+        7 => state.first = Some(any),
+        8 => state.first = Some(random.pick(&[0, setup.history, 63, 64, 65_535])),
         _ => {}
     }
     state
@@ -301,14 +307,16 @@ fn words_that_hold_no_state() {
     let mut cases = 0;
     let words = words::of_state(&busy());
     // A word above what its field can hold, by one bit and by all from there on. The bits that the
-    // field holds are those of a sound state.
+    // field holds are those of a sound state. A first place of 65,536 fits, beyond every window.
     let of_the_setup = [(1, 8), (2, 8), (3, 8), (4, 16), (5, 32), (6, 16), (7, 8), (8, 32)];
-    for (at, bits) in of_the_setup.into_iter().chain([(9, 16), (11, 1)]) {
+    let without_a_first = words::of_state(&State { first: None, ..busy() });
+    for (at, bits) in of_the_setup.into_iter().chain([(9, 16), (AHZ_S_FIRST, 16), (12, 1)]) {
         for more in bits..64 {
             for above in [1 << more, u64::MAX << more] {
-                let mut lent = words;
-                lent[at] |= above;
-                cases += refused(&lent, &format!("word {at} with {above:#x}"));
+                for mut lent in [words, without_a_first] {
+                    lent[at] |= above;
+                    cases += refused(&lent, &format!("word {at} with {above:#x}"));
+                }
             }
         }
     }
@@ -329,17 +337,22 @@ fn words_that_hold_no_state() {
     let mut without = words;
     without.rotate_left(1);
     cases += refused(&without, "no format");
-    // As the first format had them: no use, and one word less; by themselves, and with any number
-    // behind them, under their own format and under this one.
-    let mut first = words.to_vec();
+    // As the older formats had them: neither a first place nor before-first, and in the first one no use
+    // either; by themselves, and with any number behind them, under their own format and under this one.
+    let mut second = words.to_vec();
+    second.remove(AHZ_S_BEFORE_FIRST);
+    second.remove(AHZ_S_FIRST);
+    let mut first = second.clone();
     first.remove(AHZ_S_USE);
-    for format in [words::FORMAT - 1, words::FORMAT] {
-        first[0] = format;
-        cases += refused(&first, &format!("{} words of format {format:#x}", first.len()));
-        for behind in [0, 1, words[AHZ_S_USE], u64::MAX, random.next_u64()] {
-            let lent = [&first[..], &[behind; 9]].concat();
-            cases += refused(&lent[..words::STATE], &format!("format {format:#x} and {behind}"));
-            cases += refused(&lent, &format!("format {format:#x} and more of {behind}"));
+    for (mut older, own) in [(second, words::FORMAT - 1), (first, words::FORMAT - 2)] {
+        for format in [own, words::FORMAT] {
+            older[0] = format;
+            cases += refused(&older, &format!("{} words of format {format:#x}", older.len()));
+            for behind in [0, 1, words[AHZ_S_USE], u64::MAX, random.next_u64()] {
+                let lent = [&older[..], &[behind; 9]].concat();
+                cases += refused(&lent[..words::STATE], &format!("format {format:#x}, {behind}"));
+                cases += refused(&lent, &format!("format {format:#x} and more of {behind}"));
+            }
         }
     }
     for length in 0..words::STATE {
@@ -358,7 +371,7 @@ fn longer_lent_states() {
     let mut cases = 0;
     let sound = busy();
     let unsound = State { marks: 0, ..sound };
-    let counts = (23..=300).chain([511, 512, 534, 65_535, 65_536, 65_557, 65_558, 65_600]);
+    let counts = (25..=300).chain([511, 512, 536, 65_535, 65_536, 65_559, 65_560, 65_600]);
     for count in counts {
         let lent: Vec<u64> = (0..count).map(|_| random.next_u64()).collect();
         assert!(fresh_into(&sound.setup, &lent).is_ok());
@@ -391,7 +404,8 @@ fn random_event(random: &mut Random, newest: u16, history: u16) -> Event {
     }
 }
 
-/// Long lists under both rules, in both uses and with every H, across the wrap of the numbers.
+/// Long lists under both rules, in both uses and with every H, across the wrap of the numbers and of what
+/// counts lost places.
 #[test]
 fn event_lists_across_wraps_with_every_history() {
     let mut random = Random::new(SEED);
@@ -408,7 +422,9 @@ fn event_lists_across_wraps_with_every_history() {
                 paths: random.pick(&[2, 3, 8]),
                 difference: random.pick(&[0, 1, 1_000]),
             };
-            let mut kept = Kept::of(&State::fresh(setup).unwrap());
+            let near = u64::MAX - 30;
+            let counters = Counters { lost: near, before_first: near, ..Counters::default() };
+            let mut kept = Kept::of(&State { counters, ..State::fresh(setup).unwrap() });
             // Begin shortly before the wrap; two steps on for each event go across it again.
             kept.event(Event::Packet(Some(65_500)));
             for _ in 0..50_000 {
@@ -421,18 +437,24 @@ fn event_lists_across_wraps_with_every_history() {
 }
 
 /// Every number there is, from states of both rules and both uses whose newest stands at the ends and
-/// in between.
+/// in between, and so the first place in the window, or nowhere.
 #[test]
 fn every_number_from_some_states() {
     let mut cases = 0;
     for (rule, usage) in RULES.into_iter().flat_map(|rule| USES.map(|usage| (rule, usage))) {
         for history in [2, 4, 33, 63, 64] {
-            for newest in [0, 10, 32_767, 32_768, 65_535] {
+            let marks = if rule == 1 { 0 } else { 0xAAAA_5555_AAAA_5555 >> (64 - history) | 1 };
+            let set: Vec<u16> = (0..history).filter(|mark| marks >> mark & 1 == 1).collect();
+            for (newest, first) in [
+                (0, None),
+                (10, set.first()),
+                (32_767, set.get(set.len() / 2)),
+                (32_768, set.last()),
+                (65_535, set.get(1)),
+            ] {
                 let mut state = busy();
                 state.setup = Setup { rule, usage, history, ..state.setup };
-                state.newest = newest;
-                state.marks =
-                    if rule == 1 { 0 } else { 0xAAAA_5555_AAAA_5555 >> (64 - history) | 1 };
+                (state.newest, state.marks, state.first) = (newest, marks, first.copied());
                 assert!(state.is_sound());
                 for number in 0..=u16::MAX {
                     let _ = event(&state, Event::Packet(Some(number)));

@@ -112,7 +112,7 @@ fn calls_on_generators_and_states() {
         let _ = ticks(setup.timeout, 100);
         for setup in setups {
             let _ = check_setup(&setup);
-            for words in [0, 1, 21, 22, 23, 300] {
+            for words in [0, 1, 22, 23, 24, 25, 300] {
                 let _ = fresh_into(&setup, &vec![7; words]);
             }
             let Ok(fresh) = State::fresh(setup) else { continue };

@@ -6,7 +6,8 @@
 //!
 //! The sum behind 01's tape ("4 + 2 = 3 passed + 2 lost + 1 open") is held after each event: H and
 //! the way from the first place to the newest are the passed, the lost and the open places
-//! together.
+//! together. So is what CR 7 adds: before-first counts those of the lost places that lie below the
+//! first, and lost less before-first "counts only places above the first".
 
 mod common;
 
@@ -23,14 +24,17 @@ struct Span {
     newest: i64,
     /// Every place that has passed; not only those that are near.
     passed: BTreeSet<i64>,
-    /// Places given up so far, kept by `advance` and counted anew by `recount`.
+    /// Places given up so far, and those of them below the first: kept by `advance` and counted anew by
+    /// `recount`.
     lost: u64,
+    before_first: u64,
 }
 
 impl Span {
     fn starting(number: u16) -> Span {
         let first = i64::from(number);
-        Span { first, newest: first, passed: BTreeSet::from([first]), lost: 0 }
+        let passed = BTreeSet::from([first]);
+        Span { first, newest: first, passed, lost: 0, before_first: 0 }
     }
 
     /// The place nearest to the newest that the number can stand for, the lower one at equal
@@ -49,7 +53,9 @@ impl Span {
     }
 
     fn advance(&mut self, newest: i64, history: i64) {
-        self.lost += self.missing(self.newest - history + 1, newest - history);
+        let (from, to) = (self.newest - history + 1, newest - history);
+        self.lost += self.missing(from, to);
+        self.before_first += self.missing(from, to.min(self.first - 1));
         self.newest = newest;
     }
 
@@ -57,9 +63,12 @@ impl Span {
         self.missing(self.newest - history + 1, self.newest)
     }
 
-    /// All places from the lowest one of the first window to the last one given up.
-    fn recount(&self, history: i64) -> u64 {
-        self.missing(self.first - history + 1, self.newest - history)
+    /// All places from the lowest one of the first window to the last one given up: those below the
+    /// first, and those above it.
+    fn recount(&self, history: i64) -> (u64, u64) {
+        let last = self.newest - history;
+        let below = self.missing(self.first - history + 1, last.min(self.first - 1));
+        (below, self.missing(self.first + 1, last))
     }
 
     fn sum_closes(&self, history: i64) -> bool {
@@ -155,12 +164,14 @@ impl Model {
             return false;
         }
         self.counted.order += u64::from(place != span.newest + 1);
-        let lost = span.lost;
+        let (lost, before_first) = (span.lost, span.before_first);
         if place > span.newest {
             span.advance(place, history);
         }
         span.passed.insert(place);
-        self.counted.lost += span.lost - lost;
+        let Counters { lost: all, before_first: before, .. } = &mut self.counted;
+        *all = all.wrapping_add(span.lost - lost);
+        *before = before.wrapping_add(span.before_first - before_first);
         true
     }
 
@@ -200,21 +211,25 @@ impl Model {
         assert_eq!(state.ticks_left.0, left);
         assert_eq!(state.take_any, self.span.is_none() && self.last.is_none());
         let Some(span) = &self.span else {
-            assert_eq!((state.newest, state.marks), (self.last.unwrap_or(65_535), 0));
+            let newest = self.last.unwrap_or(65_535);
+            assert_eq!((state.newest, state.marks, state.first), (newest, 0, None));
             return;
         };
         assert_eq!(i64::from(state.newest), span.newest.rem_euclid(65_536));
         let near = span.passed.range(span.newest - history + 1..);
         let marks = near.fold(0, |marks, place| marks | 1 << (span.newest - place));
-        assert_eq!(state.marks, marks);
+        let below = span.newest - span.first;
+        let first = (below < history).then_some(below as u16);
+        assert_eq!((state.marks, state.first), (marks, first));
     }
 
-    /// The sum closes; and, where it is asked for, the lost places counted anew are those that were
-    /// counted one by one.
+    /// The sum closes; and, where it is asked for, the lost places counted anew, those below the first
+    /// and those above it, are those that were counted one by one.
     fn closes(&self, recount: bool) {
         let Some(span) = &self.span else { return };
         assert!(span.sum_closes(self.history()));
-        assert!(!recount || span.lost == span.recount(self.history()));
+        let counted = (span.before_first, span.lost - span.before_first);
+        assert!(!recount || counted == span.recount(self.history()));
     }
 }
 
@@ -267,8 +282,14 @@ struct Held {
 
 impl Held {
     fn fresh(setup: Setup) -> Held {
+        Held::counting_from(Counters::default(), setup)
+    }
+
+    /// Fresh, but for what it has counted.
+    fn counting_from(counted: Counters, setup: Setup) -> Held {
         let fresh = layers::fresh(&setup).expect("a setup in range");
-        Held { model: Model::new(setup), kept: Kept::of(&fresh), events: 0 }
+        let kept = Kept::of(&State { counters: counted, ..fresh });
+        Held { model: Model { counted, ..Model::new(setup) }, kept, events: 0 }
     }
 
     /// What the next number is drawn near to. Taken from the model, so a wrong state cannot steer
@@ -313,29 +334,33 @@ fn short_lists_counted_after_each_event() {
             seen.order += counted.order;
             seen.rogue += counted.rogue;
             seen.lost += counted.lost;
+            seen.before_first += counted.before_first;
             seen.tagless += counted.tagless;
             seen.resets += counted.resets;
             seen.discarded += counted.discarded;
         }
     }
-    assert!(seen.order.min(seen.rogue).min(seen.lost).min(seen.tagless).min(seen.resets) > 1_000);
+    assert!(seen.order.min(seen.rogue).min(seen.tagless).min(seen.resets) > 1_000);
+    assert!(seen.before_first.min(seen.lost - seen.before_first) > 10_000, "{seen:?}");
     assert!(seen.discarded > seen.rogue + seen.tagless, "no repeats among {seen:?}");
     report("events in short lists, every H", events);
 }
 
 /// The same list in both uses, half of it ticks, with every H and both rules: the spans end by timeouts
-/// at moments that the use decides, those of a state that takes any among them.
+/// at moments that the use decides, those of a state that takes any among them. Both counters of lost
+/// places begin near their end and wrap.
 #[test]
 fn timeouts_at_the_moment_of_the_use() {
     let mut random = Random::new(SEED + 4);
-    let (mut events, mut apart) = (0, 0);
+    let (mut events, mut apart, mut wraps) = (0, 0, 0);
+    let near = Counters { lost: u64::MAX - 20, before_first: u64::MAX - 20, ..Counters::default() };
     let (mut timeouts, mut taking_any) = ([0; 2], [0; 2]);
     for (history, list) in (2..=64).flat_map(|history| (0..24).map(move |list| (history, list))) {
         let rule = if list % 6 == 5 { MATCH } else { VECTOR };
         let timeout = Milliseconds(random.between(1, 80) as u32);
         let setup =
             Setup { timeout, ticks_per_second: 100, ..random_setup(&mut random, rule, history) };
-        let mut both = USES.map(|usage| Held::fresh(Setup { usage, ..setup }));
+        let mut both = USES.map(|usage| Held::counting_from(near, Setup { usage, ..setup }));
         let mut moments = USES.map(|_| Vec::new());
         for moment in 0..160 {
             let near = both[list % 2].near(&mut random);
@@ -352,10 +377,12 @@ fn timeouts_at_the_moment_of_the_use() {
             }
         }
         apart += u64::from(moments[0] != moments[1]);
+        wraps += u64::from(both.iter().all(|held| held.model.counted.before_first < 1 << 20));
     }
     assert!(timeouts.iter().all(|&timeouts| timeouts > 10_000), "{timeouts:?}");
     assert!(taking_any[0] == 0 && taking_any[1] > 500, "by a discarded packet: {taking_any:?}");
     assert!(apart > 700, "the uses are to differ: {apart}");
+    assert!(wraps > 700, "before-first was to wrap: {wraps}");
     report("events with timeouts in both uses, every H", events);
 }
 
@@ -386,26 +413,31 @@ fn long_spans_across_wraps() {
     report("events in spans over two wraps, every H", events);
 }
 
-/// Streams that lose nothing, by two paths: the window fills, whatever its length, and stays full.
+/// Streams that lose nothing, by two paths: the window fills, whatever its length, and stays full. What
+/// is counted as lost lies before the first, once more after a reset.
 #[test]
 fn streams_without_a_gap() {
     let mut random = Random::new(SEED + 2);
     let mut events = 0;
     for history in 2..=64 {
         let mut held = Held::fresh(random_setup(&mut random, VECTOR, history));
-        for number in 65_436..65_636u32 {
-            let packet = Event::Packet(Some(number as u16));
-            for event in [packet, packet, Event::LatentTest] {
+        for streams in 1..=2 {
+            for number in 65_436..65_636u32 {
+                let packet = Event::Packet(Some(number as u16));
+                for event in [packet, packet, Event::LatentTest] {
+                    held.event(event, 1);
+                }
+            }
+            let counted = held.model.counted;
+            assert_eq!((counted.passed, counted.discarded), (200 * streams, 200 * streams));
+            assert_eq!((counted.order, counted.rogue), (0, 0));
+            let before = streams * (u64::from(history) - 1);
+            assert_eq!((counted.lost, counted.before_first), (before, before));
+            for event in [Event::LatentReset, Event::Reset] {
                 held.event(event, 1);
             }
         }
-        let counted = held.model.counted;
-        assert_eq!((counted.passed, counted.discarded), (200, 200));
-        assert_eq!((counted.order, counted.rogue), (0, 0));
-        assert_eq!(counted.lost, u64::from(history) - 1, "the places before the first");
-        for event in [Event::LatentReset, Event::Reset, Event::Packet(Some(7))] {
-            held.event(event, 1);
-        }
+        held.event(Event::Packet(Some(7)), 1);
         events += held.events;
     }
     report("events in streams without a gap, every H", events);
@@ -438,4 +470,37 @@ fn the_same_slide_in_sequence() {
         events += held.events;
     }
     report("events with the same slide in sequence, every H", events);
+}
+
+/// Every way past the first place: from a reset or a timeout on, the same slide by every d below every H
+/// until the window has left the first place behind. Before each come none, half or all of the late
+/// packets that the window takes, those below the first place among them.
+#[test]
+fn past_the_first_place() {
+    let mut random = Random::new(SEED + 5);
+    let mut events = 0;
+    for history in 2..=64u16 {
+        let mut held = Held::fresh(random_setup(&mut random, VECTOR, history));
+        for (d, halves) in (1..history).flat_map(|d| (0..=2).map(move |halves| (d, halves))) {
+            let mut newest = held.near(&mut random);
+            held.event(Event::Packet(Some(newest)), 1);
+            for _ in 0..=history / d + 1 {
+                for late in (1..history).filter(|_| random.below(2) < halves) {
+                    held.event(Event::Packet(Some(newest.wrapping_sub(late))), 1);
+                }
+                newest = newest.wrapping_add(d);
+                held.event(Event::Packet(Some(newest)), 1);
+            }
+            assert_eq!(held.kept.state().first, None, "H {history}, by {d}");
+            held.event(Event::LatentReset, 1);
+            if random.once_in(2) {
+                held.event(Event::Reset, 1);
+            } else {
+                while held.event(Event::Tick, 1) != sys::AHZ_RESET {}
+            }
+        }
+        assert_eq!(held.model.counted.rogue, 0);
+        events += held.events;
+    }
+    report("events past the first place, every H", events);
 }

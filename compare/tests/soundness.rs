@@ -146,17 +146,24 @@ fn fresh_and_reset() {
             setup,
             newest: 65_535,
             marks: 0,
+            first: None,
             take_any: true,
             ticks_left: Ticks(0),
             counters: Counters::default(),
             base: 0,
         };
         assert_eq!(fresh, expected);
-        let counters =
-            Counters { passed: 7, resets: u64::MAX, latent_resets: 3, ..Counters::default() };
+        let counters = Counters {
+            passed: 7,
+            resets: u64::MAX,
+            latent_resets: 3,
+            before_first: 2,
+            ..Counters::default()
+        };
         let used = State {
             newest: 9,
             marks: 0b1011,
+            first: Some(3),
             take_any: false,
             ticks_left: Ticks(4),
             counters,
@@ -169,7 +176,8 @@ fn fresh_and_reset() {
     }
 }
 
-/// Each sentence of "Sound state" on both sides, every mark under every H among them.
+/// Each sentence of "Sound state", and what CR 7 adds to it, on both sides, every mark under every H
+/// among them.
 #[test]
 fn unsound_in_each_respect() {
     for usage in USES {
@@ -177,10 +185,15 @@ fn unsound_in_each_respect() {
     }
 }
 
+/// Every mark that a window can have, and some that none has.
+fn firsts() -> impl Iterator<Item = u16> {
+    (0..=65).chain([127, 256, 65_534, 65_535])
+}
+
 /// Of a setup with H 4 and full ticks of 10.
 fn each_respect(setup: Setup) {
     let fresh = fresh(&setup).unwrap();
-    // Take-any: newest 65,535, no mark, ticks up to full.
+    // Take-any: newest 65,535, no mark, no first place, ticks up to full.
     accepted(State { ticks_left: Ticks(10), ..fresh });
     refused(State { ticks_left: Ticks(11), ..fresh });
     refused(State { ticks_left: Ticks(u64::MAX), ..fresh });
@@ -188,6 +201,9 @@ fn each_respect(setup: Setup) {
     refused(State { newest: 0, ..fresh });
     for mark in 0..64 {
         refused(State { marks: 1 << mark, ..fresh });
+    }
+    for first in firsts() {
+        refused(State { first: Some(first), ..fresh });
     }
     // Vector: ticks from 1 to full, mark 0 set, none at H or above.
     let running = State { take_any: false, newest: 300, marks: 1, ticks_left: Ticks(10), ..fresh };
@@ -209,12 +225,34 @@ fn each_respect(setup: Setup) {
             }
         }
     }
-    // Match: no mark at all.
+    // A first place has its mark set, whatever else is set.
+    for history in 2..=64u16 {
+        let whole = u64::MAX >> (64 - history);
+        let running = State { setup: Setup { history, ..setup }, ..running };
+        for first in firsts() {
+            let at = |marks| State { marks, first: Some(first), ..running };
+            if first < history {
+                let mark = 1 << first;
+                accepted(at(1 | mark));
+                accepted(at(whole));
+                refused(at(whole ^ mark));
+                refused(at(1 & !mark));
+            } else {
+                refused(at(1));
+                refused(at(whole));
+                refused(at(whole | 1u64.checked_shl(first.into()).unwrap_or(0)));
+            }
+        }
+    }
+    // Match: no mark at all, and no first place.
     let matching = State { setup: Setup { rule: MATCH, ..setup }, marks: 0, ..running };
     accepted(matching);
     refused(State { ticks_left: Ticks(0), ..matching });
     refused(State { ticks_left: Ticks(11), ..matching });
     for mark in 0..64 {
         refused(State { marks: 1 << mark, ..matching });
+    }
+    for first in firsts() {
+        refused(State { first: Some(first), ..matching });
     }
 }

@@ -1,5 +1,6 @@
-//! "Numbering and recovery": the generator, the timer, the marks moved one place at a time,
-//! counters and the latent figure at the ends of 64 bits. Every version is asked.
+//! "Numbering and recovery": the generator, the timer, the marks moved one place at a time, the holes
+//! before the first packet, counters and the latent figure at the ends of 64 bits. Every version is
+//! asked.
 
 mod common;
 
@@ -33,6 +34,7 @@ const FULL: Counters = Counters {
     tagless: u64::MAX,
     resets: u64::MAX,
     latent_resets: u64::MAX,
+    before_first: u64::MAX,
 };
 
 fn packet(state: &State, number: Option<u16>) -> (u8, State) {
@@ -58,12 +60,14 @@ const NEWEST: u16 = 300;
 const LATE: u16 = 298;
 const FAR: u16 = 30_000;
 
-/// A state with so many ticks left: one that takes any where there is no newest number.
+/// A state with so many ticks left: one that takes any where there is no newest number. Under vector the
+/// late number was the first.
 fn timed(setup: Setup, newest: Option<u16>, left: u64) -> State {
     let marked = newest.is_some() && setup.rule == VECTOR;
     State {
         newest: newest.unwrap_or(65_535),
         marks: if marked { 0b101 } else { 0 },
+        first: marked.then_some(NEWEST - LATE),
         take_any: newest.is_none(),
         ticks_left: Ticks(left),
         ..State::fresh(setup).unwrap()
@@ -244,26 +248,37 @@ fn a_stuck_sender() {
 }
 
 /// The marks as a row of places, the newest first. Mark 0, which is the newest, is set in every
-/// sound state.
-fn row(history: u16, mut set: impl FnMut(u16) -> bool) -> Vec<bool> {
-    (0..history).map(|mark| mark == 0 || set(mark)).collect()
+/// sound state, and so is that of the first packet's place.
+fn row(history: u16, first: Option<u16>, mut set: impl FnMut(u16) -> bool) -> Row {
+    let set = |mark| mark == 0 || first == Some(mark) || set(mark);
+    Row { marks: (0..history).map(set).collect(), first, lost: 0, before_first: 0 }
 }
 
 fn word(row: &[bool]) -> u64 {
     row.iter().rev().fold(0, |marks, &mark| marks << 1 | u64::from(mark))
 }
 
-/// The row moved as 01 and 002 clause 7.4.3.6 say, one place at a time; and how many clear marks
-/// left it.
-fn moved(mut row: Vec<bool>, d: u16) -> (Vec<bool>, u64) {
-    let mut lost = 0;
+/// A row, which of its places is the first packet's, and how many clear marks have left it: in all, and
+/// from below the first.
+struct Row {
+    marks: Vec<bool>,
+    first: Option<u16>,
+    lost: u64,
+    before_first: u64,
+}
+
+/// The row moved as 01 and 002 clause 7.4.3.6 say, one place at a time. While the row has the first
+/// place, a clear mark that leaves it comes from below that.
+fn moved(mut row: Row, d: u16) -> Row {
     for _ in 0..d {
-        let left = row.pop().expect("at least two marks");
-        lost += u64::from(!left);
-        row.insert(0, false);
+        let left = row.marks.pop().expect("at least two marks");
+        row.lost += u64::from(!left);
+        row.before_first += u64::from(!left && row.first.is_some());
+        row.marks.insert(0, false);
+        row.first = row.first.map(|mark| mark + 1).filter(|&mark| mark < row.marks.len() as u16);
     }
-    row[0] = true;
-    (row, lost)
+    row.marks[0] = true;
+    row
 }
 
 /// Which marks are set beside mark 0, by the mark, H and d; the marks from H - d on leave. Mark 0 is
@@ -282,52 +297,110 @@ const EXTREMES: [Extreme; 10] = [
     ("all that stay", |mark, h, d| mark < h - d),
 ];
 
-/// Every d below every H, from extreme marks and from any, against marks moved one by one. Each
-/// goes once from any number with counters at 0, and once round 65,535 with counters that wrap.
+/// Every d below every H, with the first place at every mark of the window and at none, from extreme
+/// marks and from any, against marks moved one by one. About half go from any number with counters at
+/// 0, the others round 65,535 with counters that wrap.
 #[test]
 fn marks_move_one_place_at_a_time() {
     let mut random = Random::new(SEED);
-    let (mut cases, mut wraps) = (0, 0);
-    for (history, d) in (2..=64).flat_map(|history| (1..history).map(move |d| (history, d))) {
+    let (mut cases, mut wraps, mut wraps_before_first) = (0, 0, 0);
+    let slides = (2..=64).flat_map(|history| (1..history).map(move |d| (history, d)));
+    for (history, d, first) in slides.flat_map(|(history, d)| {
+        (0..history).map(Some).chain([None; 4]).map(move |first| (history, d, first))
+    }) {
         let extremes =
-            EXTREMES.map(|(name, set)| (name, row(history, |mark| set(mark, history, d))));
-        let any = [(); 20].map(|()| ("any", row(history, |_| random.once_in(2))));
+            EXTREMES.map(|(name, set)| (name, row(history, first, |mark| set(mark, history, d))));
+        let any = [(); 6].map(|()| ("any", row(history, first, |_| random.once_in(2))));
         for (name, row) in extremes.into_iter().chain(any) {
-            let below_the_wrap = 65_535 - random.below(d.into()) as u16;
-            let near = Counters { lost: u64::MAX - random.below(d.into()), ..FULL };
+            let mut below = || random.below(d.into());
+            let below_the_wrap = 65_535 - below() as u16;
+            let near =
+                Counters { lost: u64::MAX - below(), before_first: u64::MAX - below(), ..FULL };
             let starts = [(random.number(), Counters::default()), (below_the_wrap, near)];
-            for (newest, counters) in starts {
-                let state = State {
-                    setup: Setup { history, ..SETUP },
-                    newest,
-                    marks: word(&row),
-                    take_any: false,
-                    ticks_left: Ticks(3),
-                    counters,
-                    ..State::fresh(SETUP).unwrap()
-                };
-                let number = newest.wrapping_add(d);
-                let (row, lost) = moved(row.clone(), d);
-                let next = State {
-                    newest: number,
-                    marks: word(&row),
-                    ticks_left: Ticks(10),
-                    counters: Counters {
-                        passed: counters.passed.wrapping_add(1),
-                        order: counters.order.wrapping_add(u64::from(d != 1)),
-                        lost: counters.lost.wrapping_add(lost),
-                        ..counters
-                    },
-                    ..state
-                };
-                assert_eq!(packet(&state, Some(number)), (AHZ_PASS, next), "H {history}, {name}");
-                wraps += u64::from(next.counters.lost < counters.lost && number < newest);
-                cases += 1;
-            }
+            let (newest, counters) = random.pick(&starts);
+            let state = State {
+                setup: Setup { history, ..SETUP },
+                newest,
+                marks: word(&row.marks),
+                first,
+                take_any: false,
+                ticks_left: Ticks(3),
+                counters,
+                ..State::fresh(SETUP).unwrap()
+            };
+            let number = newest.wrapping_add(d);
+            let row = moved(row, d);
+            let next = State {
+                newest: number,
+                marks: word(&row.marks),
+                first: row.first,
+                ticks_left: Ticks(10),
+                counters: Counters {
+                    passed: counters.passed.wrapping_add(1),
+                    order: counters.order.wrapping_add(u64::from(d != 1)),
+                    lost: counters.lost.wrapping_add(row.lost),
+                    before_first: counters.before_first.wrapping_add(row.before_first),
+                    ..counters
+                },
+                ..state
+            };
+            assert_eq!(packet(&state, Some(number)), (AHZ_PASS, next), "H {history}, {name}");
+            wraps += u64::from(next.counters.lost < counters.lost && number < newest);
+            wraps_before_first += u64::from(next.counters.before_first < counters.before_first);
+            cases += 1;
         }
     }
     assert!(wraps > cases / 8, "numbers and lost were to wrap: {wraps}");
+    assert!(wraps_before_first > cases / 16, "before-first was to wrap: {wraps_before_first}");
     report("slides", cases);
+}
+
+/// What H 4 gives up after a first packet 10, whose window begins at 7, by hand: how many places are lost,
+/// how many of them before the first, and the mark of the first place where the window still has it. The
+/// same lists go round the wrap; and each is run again after a reset and after a timeout, which start the
+/// first place anew and keep the counters. Under match nothing is lost, and no first place is kept.
+#[test]
+fn holes_before_the_first_packet() {
+    for (numbers, lost, before_first, first) in [
+        (&[10u16][..], 0, 0, Some(0)),
+        (&[10, 11], 1, 1, Some(1)),
+        (&[10, 12], 2, 2, Some(2)),
+        (&[10, 13], 3, 3, Some(3)),
+        (&[10, 13, 14], 3, 3, None), // 10 leaves, which is not lost
+        (&[10, 13, 15], 4, 3, None), // and 11
+        (&[10, 13, 16], 5, 3, None), // and 12
+        (&[10, 13, 12, 11, 16], 3, 3, None), // which both came late here
+        (&[10, 12, 14], 3, 3, None),
+        (&[10, 12, 15], 4, 3, None), // 9 and 11 in one slide, from both sides of the first
+        (&[10, 12, 9, 15], 3, 2, None), // 9 came late, and is no hole
+        (&[10, 9, 13], 2, 2, Some(3)),
+        (&[10, 9, 8, 7, 13, 16], 2, 0, None),
+        (&[10, 11, 12, 13, 14, 16, 19], 4, 3, None), // 15, long after the first
+    ] {
+        for (rule, shift) in [(VECTOR, 0), (VECTOR, 65_526), (VECTOR, 65_523), (MATCH, 0)] {
+            let mut kept = Kept::of(&State::fresh(Setup { rule, ..SETUP }).unwrap());
+            for rounds in 1..=3 {
+                for number in numbers {
+                    let number = number.wrapping_add(shift);
+                    assert_eq!(kept.event(Event::Packet(Some(number))), AHZ_PASS, "{numbers:?}");
+                }
+                kept.event(Event::LatentReset);
+                let State { counters, first: told, .. } = kept.state();
+                let counted = (counters.lost, counters.before_first, told);
+                let expected = match rule {
+                    VECTOR => (rounds * lost, rounds * before_first, first),
+                    _ => (0, 0, None),
+                };
+                assert_eq!(counted, expected, "{numbers:?}");
+                if rounds == 1 {
+                    kept.event(Event::Reset);
+                } else {
+                    while kept.event(Event::Tick) != AHZ_RESET {}
+                }
+                assert_eq!((kept.state().first, kept.state().counters.resets), (None, rounds));
+            }
+        }
+    }
 }
 
 /// Every counter goes from 2^64 - 1 to 0.
@@ -344,7 +417,10 @@ fn counters_wrap() {
         after(&[Some(10), Some(14)]),
         Counters { passed: 0, discarded: 0, rogue: 0, ..FULL }
     );
-    assert_eq!(after(&[Some(10), Some(13)]), Counters { passed: 1, order: 0, lost: 2, ..FULL });
+    assert_eq!(
+        after(&[Some(10), Some(13)]),
+        Counters { passed: 1, order: 0, lost: 2, before_first: 2, ..FULL }
+    );
     let (_, reset) = event(&state, Event::Reset);
     assert_eq!(reset.counters, Counters { resets: 0, ..FULL });
     let (_, reset) = event(&state, Event::LatentReset);

@@ -14,8 +14,8 @@ const SETUP: [u8; 17] = [0x0F, 0, 0, 0, 0, 4, 0, 0, 0, 100, 0, 100, 2, 0, 0, 0, 
 const TAKEN: usize = 2;
 const USE: usize = 3;
 
-const NOTHING: &str =
-    "passed=0 discarded=0 order=0 rogue=0 lost=0 tagless=0 resets=0 latent-resets=0\n";
+const NOTHING: &str = "passed=0 discarded=0 order=0 rogue=0 lost=0 tagless=0 resets=0 \
+    latent-resets=0 before-first=0\n";
 
 fn printed(tape: &[u8]) -> String {
     String::from_utf8(lines(tape)).expect("lines are plain text")
@@ -31,7 +31,8 @@ fn after_setup(events: &[u8]) -> String {
 fn the_papers_tape() {
     let events = [1, 0, 10, 1, 0, 10, 1, 0, 12, 1, 0, 11, 1, 0, 20, 6];
     let expected = "ok\npass\ndiscard\npass\npass\ndiscard\nlatent ok\n\
-        passed=3 discarded=2 order=2 rogue=1 lost=2 tagless=0 resets=0 latent-resets=0\n";
+        passed=3 discarded=2 order=2 rogue=1 lost=2 tagless=0 resets=0 latent-resets=0 \
+        before-first=2\n";
     assert_eq!(after_setup(&events), expected);
 }
 
@@ -53,7 +54,8 @@ fn every_line() {
     expected
         .push_str("reset\ntick\ndiscard\nlatent ok\nlatent ok\nreset\nlatent reset\nlatent ok\n");
     expected.push_str(
-        "passed=1 discarded=1 order=0 rogue=0 lost=0 tagless=1 resets=2 latent-resets=1\n",
+        "passed=1 discarded=1 order=0 rogue=0 lost=0 tagless=1 resets=2 latent-resets=1 \
+         before-first=0\n",
     );
     assert_eq!(after_setup(&events), expected);
     // Two passed and none discarded on two paths are 2 away from the base, and 1 is allowed.
@@ -61,7 +63,29 @@ fn every_line() {
     assert_eq!(
         after_setup(&events),
         "ok\npass\nlatent ok\npass\nlatent error\nlatent reset\nlatent ok\n\
-         passed=2 discarded=0 order=0 rogue=0 lost=1 tagless=0 resets=0 latent-resets=1\n"
+         passed=2 discarded=0 order=0 rogue=0 lost=1 tagless=0 resets=0 latent-resets=1 \
+         before-first=1\n"
+    );
+}
+
+/// What is lost before the first packet, again after a reset; under match nothing is.
+#[test]
+fn holes_before_the_first() {
+    // From 7 to 9 and 11, which the slide to 15 gives up from both sides of 10; then 37 and 38.
+    let events = [1, 0, 10, 1, 0, 12, 1, 0, 15, 4, 1, 0, 40, 1, 0, 42];
+    assert_eq!(
+        after_setup(&events),
+        "ok\npass\npass\npass\nreset\npass\npass\n\
+         passed=5 discarded=0 order=3 rogue=0 lost=6 tagless=0 resets=1 latent-resets=0 \
+         before-first=5\n"
+    );
+    let mut tape = [&SETUP[..], &events].concat();
+    tape[1] = 1;
+    assert_eq!(
+        printed(&tape),
+        "ok\npass\npass\npass\nreset\npass\npass\n\
+         passed=5 discarded=0 order=3 rogue=0 lost=0 tagless=0 resets=1 latent-resets=0 \
+         before-first=0\n"
     );
 }
 
@@ -168,12 +192,14 @@ fn the_use_decides_on_the_timer() {
         assert_eq!(
             printed(0, taken, &stuck),
             "ok\npass\ndiscard\nreset\npass\ndiscard\nreset\npass\n\
-             passed=3 discarded=2 order=0 rogue=0 lost=0 tagless=0 resets=2 latent-resets=0\n"
+             passed=3 discarded=2 order=0 rogue=0 lost=0 tagless=0 resets=2 latent-resets=0 \
+             before-first=0\n"
         );
         assert_eq!(
             printed(1, taken, &stuck),
             "ok\npass\ndiscard\ndiscard\ndiscard\ndiscard\n\
-             passed=1 discarded=4 order=0 rogue=0 lost=0 tagless=0 resets=0 latent-resets=0\n"
+             passed=1 discarded=4 order=0 rogue=0 lost=0 tagless=0 resets=0 latent-resets=0 \
+             before-first=0\n"
         );
     }
     // None, nine ticks, none, and ten more, the last of which times out where the second none counts.
@@ -181,18 +207,21 @@ fn the_use_decides_on_the_timer() {
     assert_eq!(
         printed(0, 0, &none),
         "ok\ndiscard\ndiscard\n\
-         passed=0 discarded=2 order=0 rogue=0 lost=0 tagless=2 resets=0 latent-resets=0\n"
+         passed=0 discarded=2 order=0 rogue=0 lost=0 tagless=2 resets=0 latent-resets=0 \
+         before-first=0\n"
     );
     assert_eq!(
         printed(1, 0, &none),
         "ok\ndiscard\ndiscard\nreset\n\
-         passed=0 discarded=2 order=0 rogue=0 lost=0 tagless=2 resets=1 latent-resets=0\n"
+         passed=0 discarded=2 order=0 rogue=0 lost=0 tagless=2 resets=1 latent-resets=0 \
+         before-first=0\n"
     );
     for usage in [0, 1] {
         assert_eq!(
             printed(usage, 1, &none),
             "ok\npass\npass\nreset\n\
-             passed=2 discarded=0 order=0 rogue=0 lost=0 tagless=2 resets=1 latent-resets=0\n"
+             passed=2 discarded=0 order=0 rogue=0 lost=0 tagless=2 resets=1 latent-resets=0 \
+             before-first=0\n"
         );
     }
 }

@@ -1,5 +1,6 @@
-/* Document 01 as small functions, with the use of document 02's CR 2. They say what is expected of the layer, are written from the papers,
- * and are slow and plain: no bit is counted at once, and marks are an array. None of them calls the layer. */
+/* Document 01 as small functions, with document 02's CR 2, the use, and CR 7, holes before the first packet. They say what is expected of
+ * the layer, are written from the papers, and are slow and plain: no bit is counted at once, and marks are an array. None of them calls
+ * the layer. */
 #ifndef PAPER_H
 #define PAPER_H
 
@@ -94,7 +95,8 @@ typedef struct {
 typedef struct {
     PaperSetup setup;
     uint64_t newest, marks[64], take_any, left;
-    uint64_t passed, discarded, order, rogue, lost, tagless, resets, latent_resets, base;
+    uint64_t first; /* the first packet's place: 1 where it is the newest, one more for each place below it, 0 outside the window */
+    uint64_t passed, discarded, order, rogue, lost, tagless, resets, latent_resets, before_first, base;
 } PaperState;
 
 static inline uint64_t paper_ticks(uint64_t ms, uint64_t rate) {
@@ -112,8 +114,10 @@ static inline uint8_t paper_check_setup(PaperSetup setup) {
     return 0;
 }
 
+/* "A reset starts that anew, the counters stay." */
 static inline void paper_clear(PaperState *state) {
     memset(state->marks, 0, sizeof state->marks);
+    state->first = 0;
     state->newest = 65535;
     state->take_any = 1;
     state->left = 0;
@@ -130,18 +134,18 @@ static inline PaperState paper_fresh(PaperSetup setup) {
 /* Where each word of a state is kept; not the format, 0, nor the marks, 10. */
 static inline uint64_t *paper_field(PaperState *state, unsigned word) {
     uint64_t *const fields[] = {&state->setup.rule, &state->setup.taken, &state->setup.use, &state->setup.history, &state->setup.ms,
-                                &state->setup.rate, &state->setup.paths, &state->setup.difference, &state->newest, NULL, &state->take_any,
-                                &state->left, &state->passed, &state->discarded, &state->order, &state->rogue, &state->lost,
-                                &state->tagless, &state->resets, &state->latent_resets, &state->base};
+                                &state->setup.rate, &state->setup.paths, &state->setup.difference, &state->newest, NULL, &state->first,
+                                &state->take_any, &state->left, &state->passed, &state->discarded, &state->order, &state->rogue,
+                                &state->lost, &state->tagless, &state->resets, &state->latent_resets, &state->before_first, &state->base};
     return word == 0 ? NULL : fields[word - 1];
 }
 
 static inline void paper_words(PaperState *state, uint64_t *words) {
     unsigned k;
-    words[0] = 0x41485A02;
+    words[0] = 0x41485A03;
     words[10] = 0;
     for (k = 0; k < 64; k++) words[10] += state->marks[k] << k;
-    for (k = 0; k < 22; k++) {
+    for (k = 0; k < 24; k++) {
         if (paper_field(state, k) != NULL) words[k] = *paper_field(state, k);
     }
 }
@@ -150,14 +154,14 @@ static inline void paper_words(PaperState *state, uint64_t *words) {
 static inline int paper_state(const uint64_t *words, PaperState *state) {
     uint64_t any_mark = 0;
     unsigned k;
-    for (k = 0; k < 22; k++) {
+    for (k = 0; k < 24; k++) {
         if (paper_field(state, k) != NULL) *paper_field(state, k) = words[k];
     }
     for (k = 0; k < 64; k++) {
         state->marks[k] = words[10] >> k & 1;
         any_mark |= state->marks[k];
     }
-    if (words[0] != 0x41485A02 || paper_check_setup(state->setup) != 0 || state->setup.difference > UINT32_MAX) return 0;
+    if (words[0] != 0x41485A03 || paper_check_setup(state->setup) != 0 || state->setup.difference > UINT32_MAX) return 0;
     for (k = 0; k < 64; k++) {
         if (k >= state->setup.history && state->marks[k] == 1) return 0;
     }
@@ -166,6 +170,10 @@ static inline int paper_state(const uint64_t *words, PaperState *state) {
     if (state->take_any == 0 && state->left < 1) return 0;
     if (state->take_any == 0 && state->setup.rule == 0 && state->marks[0] == 0) return 0;
     if (state->setup.rule == 1 && any_mark) return 0;
+    if (state->first > 0) { /* "a first place kept as still in the window has its mark set, and take-any and match keep none" */
+        if (state->take_any == 1 || state->setup.rule == 1 || state->first > state->setup.history) return 0;
+        if (state->marks[state->first - 1] == 0) return 0;
+    }
     return state->left <= paper_ticks(state->setup.ms, state->setup.rate);
 }
 
@@ -177,6 +185,20 @@ static inline uint8_t paper_verdict(PaperState *state, int passes) {
     return passes ? AHZ_PASS : AHZ_DISCARD;
 }
 
+/* One place further: the last of the window leaves it. "Keep lost as the standard has it and add a ninth counter, before-first, for those
+ * of them below the first packet's place." */
+static inline void paper_move(PaperState *state) {
+    const uint64_t last = state->setup.history;
+    uint64_t k;
+    if (state->marks[last - 1] == 0) {
+        state->lost++;
+        if (state->first > 0 && state->first < last) state->before_first++;
+    }
+    for (k = last - 1; k > 0; k--) state->marks[k] = state->marks[k - 1];
+    state->marks[0] = 0;
+    if (state->first > 0) state->first = state->first == last ? 0 : state->first + 1;
+}
+
 static inline uint8_t paper_numbered(PaperState *state, uint16_t number) {
     const int history = (int)state->setup.history;
     int d = (int)((number - state->newest) % 65536), moves;
@@ -184,6 +206,7 @@ static inline uint8_t paper_numbered(PaperState *state, uint16_t number) {
     if (state->take_any == 1) {
         state->newest = number;
         state->marks[0] = state->setup.rule == 0;
+        state->first = state->setup.rule == 0;
         state->take_any = 0;
         return paper_verdict(state, 1);
     }
@@ -204,12 +227,7 @@ static inline uint8_t paper_numbered(PaperState *state, uint16_t number) {
         return paper_verdict(state, 1);
     }
     if (d != 1) state->order++;
-    for (moves = 0; moves < d; moves++) {
-        int k;
-        if (state->marks[history - 1] == 0) state->lost++;
-        for (k = history - 1; k > 0; k--) state->marks[k] = state->marks[k - 1];
-        state->marks[0] = 0;
-    }
+    for (moves = 0; moves < d; moves++) paper_move(state);
     state->marks[0] = 1;
     state->newest = number;
     return paper_verdict(state, 1);
@@ -328,8 +346,9 @@ static inline size_t paper_tape(const uint8_t *tape, size_t octets, char *out) {
     if (fault != 0) return (size_t)(to - out) + (size_t)sprintf(to, "fault %u\n", fault);
     to += sprintf(to, "passed=%llu discarded=%llu order=%llu rogue=%llu", (unsigned long long)state.passed,
                   (unsigned long long)state.discarded, (unsigned long long)state.order, (unsigned long long)state.rogue);
-    to += sprintf(to, " lost=%llu tagless=%llu resets=%llu latent-resets=%llu\n", (unsigned long long)state.lost,
+    to += sprintf(to, " lost=%llu tagless=%llu resets=%llu latent-resets=%llu", (unsigned long long)state.lost,
                   (unsigned long long)state.tagless, (unsigned long long)state.resets, (unsigned long long)state.latent_resets);
+    to += sprintf(to, " before-first=%llu\n", (unsigned long long)state.before_first);
     return (size_t)(to - out);
 }
 

@@ -89,13 +89,13 @@ static void setup_check(void) {
     for (i = 0; i < 3; i++) answer = ahz_check_setup_v2((uint8_t)i, 0, 0, 8, 100, 100, 2, 1);
 }
 static void fresh(void) {
-    for (i = 0; i < 3; i++) answer = ahz_fresh_v2((uint8_t)(2 - i), 0, 0, 8, 100, 100, 2, 1, state, AHZ_S_WORDS);
+    for (i = 0; i < 3; i++) answer = ahz_fresh_v3((uint8_t)(2 - i), 0, 0, 8, 100, 100, 2, 1, state, AHZ_S_WORDS);
 }
 /* Under both rules and in both uses: a first packet, then each difference, near and far; and a state that is not sound. */
 static void packets(void) {
     for (rule = 0; rule < 2; rule++) {
         for (use = 0; use < 2; use++) {
-            answer = ahz_fresh_v2((uint8_t)rule, 0, (uint8_t)use, 8, 100, 100, 2, 1, state, AHZ_S_WORDS);
+            answer = ahz_fresh_v3((uint8_t)rule, 0, (uint8_t)use, 8, 100, 100, 2, 1, state, AHZ_S_WORDS);
             for (i = 0; i < 40; i++) answer = ahz_numbered(state, AHZ_S_WORDS, (uint16_t)(i * 7 % 20 + i));
         }
     }
@@ -103,7 +103,7 @@ static void packets(void) {
 }
 static void tagless(void) {
     for (i = 0; i < 4; i++) {
-        answer = ahz_fresh_v2(0, (uint8_t)(i % 2), (uint8_t)(i / 2), 8, 100, 100, 2, 1, state, AHZ_S_WORDS);
+        answer = ahz_fresh_v3(0, (uint8_t)(i % 2), (uint8_t)(i / 2), 8, 100, 100, 2, 1, state, AHZ_S_WORDS);
         answer = ahz_tagless(state, AHZ_S_WORDS);
     }
     answer = ahz_tagless(state, 0);
@@ -137,8 +137,8 @@ static void reading_volts(void) {
     for (i = 0; i < sizeof payload; i++) answer = ahz_volts(payload + i, sizeof payload - i, 0.25, 0.5, &volts);
 }
 static void bench(void) {
-    for (i = 0; i <= sizeof tape; i++) answer = ahz_tape_v2(tape, i, out, sizeof out, &length);
-    answer = ahz_tape_v2(tape, sizeof tape, out, 0, &length);
+    for (i = 0; i <= sizeof tape; i++) answer = ahz_tape_v3(tape, i, out, sizeof out, &length);
+    answer = ahz_tape_v3(tape, sizeof tape, out, 0, &length);
 }
 
 int main(void) {
@@ -153,12 +153,12 @@ int main(void) {
         {"ahz_lookup", lookup, AHZ_STACK},           {"ahz_generator", generator, AHZ_STACK},
         {"ahz_generate", generation, AHZ_STACK},     {"ahz_generator_reset", generator_reset, AHZ_STACK},
         {"ahz_ticks", ticks, AHZ_STACK},             {"ahz_check_setup_v2", setup_check, AHZ_STACK},
-        {"ahz_fresh_v2", fresh, AHZ_STACK},          {"ahz_numbered", packets, AHZ_STACK},
+        {"ahz_fresh_v3", fresh, AHZ_STACK},          {"ahz_numbered", packets, AHZ_STACK},
         {"ahz_tagless", tagless, AHZ_STACK},         {"ahz_tick", tick, AHZ_STACK},
         {"ahz_reset", resets, AHZ_STACK},            {"ahz_latent_reset", latent_reset, AHZ_STACK},
         {"ahz_latent_test", latent_test, AHZ_STACK}, {"ahz_card", card, AHZ_STACK},
         {"ahz_card_octets", card_part, AHZ_STACK},   {"ahz_rest_octets", rest_part, AHZ_STACK},
-        {"ahz_volts", reading_volts, AHZ_STACK},     {"ahz_tape_v2", bench, AHZ_TAPE_STACK},
+        {"ahz_volts", reading_volts, AHZ_STACK},     {"ahz_tape_v3", bench, AHZ_TAPE_STACK},
     };
     const size_t own = taken(none);
     int failed = 0;

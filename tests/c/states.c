@@ -1,4 +1,4 @@
-/* Numbering, ticks, setups and recovery, and their typed forms: all 22 words of a state after each event against the papers, in long runs
+/* Numbering, ticks, setups and recovery, and their typed forms: all 24 words of a state after each event against the papers, in long runs
  * of events from fresh states, and from states of every kind, sound and not, with counters that wrap. */
 #include "check.h"
 #include "paper.h"
@@ -48,7 +48,7 @@ static void ticks(void) {
 
 /* A setup alone, and for a fresh state in so many words, both as bare numbers and typed. */
 static void expect_setup(PaperSetup s, size_t words) {
-    const uint8_t refusal = paper_check_setup(s), answer = refusal == 0 && words < 22 ? 8 : refusal;
+    const uint8_t refusal = paper_check_setup(s), answer = refusal == 0 && words < 24 ? 8 : refusal;
     const uint8_t rule = (uint8_t)s.rule, taken = (uint8_t)s.taken, use = (uint8_t)s.use, paths = (uint8_t)s.paths;
     const uint16_t history = (uint16_t)s.history, rate = (uint16_t)s.rate;
     const uint32_t ms = (uint32_t)s.ms, difference = (uint32_t)s.difference;
@@ -65,7 +65,7 @@ static void expect_setup(PaperSetup s, size_t words) {
     setup.paths = paths;
     setup.difference = difference;
     EXPECT(ahz_check_setup_v2(rule, taken, use, history, ms, rate, paths, difference) == refusal && ahz_setup_check(setup) == refusal);
-    EXPECT(ahz_fresh_v2(rule, taken, use, history, ms, rate, paths, difference, lent, words) == answer);
+    EXPECT(ahz_fresh_v3(rule, taken, use, history, ms, rate, paths, difference, lent, words) == answer);
     EXPECT(holds(&space, expected, answer == 0 ? sizeof expected : 0));
     if (words == AHZ_S_WORDS) {
         ahz_state_t *typed = (ahz_state_t *)lend_aligned(&space, NULL, sizeof(ahz_state_t));
@@ -100,9 +100,9 @@ static void setups(void) {
         s.paths = paths[digit(&rest, COUNT(paths))];
         s.difference = differences[roll() % COUNT(differences)];
         expect_setup(s, AHZ_S_WORDS);
-        if (roll() % 16 == 0) expect_setup(s, roll() % 27);
+        if (roll() % 16 == 0) expect_setup(s, roll() % 29);
     }
-    for (n = 0; n < 27; n++) expect_setup(good, n);
+    for (n = 0; n < 29; n++) expect_setup(good, n);
     for (n = 0; n < 256; n++) {
         good.use = n;
         expect_setup(good, AHZ_S_WORDS);
@@ -213,6 +213,7 @@ static PaperSetup any_setup(void) {
 static void runs(void) {
     static const uint8_t answers_met[] = {AHZ_DONE, AHZ_PASS, AHZ_DISCARD, AHZ_TICK, AHZ_RESET, AHZ_LATENT_OK, AHZ_LATENT_ERROR};
     unsigned run, i, answered[256] = {0};
+    uint64_t before = 0, missed = 0;
     for (run = 0; run < 60; run++) {
         PaperState fresh = paper_fresh(any_setup());
         uint64_t words[AHZ_S_WORDS];
@@ -232,9 +233,11 @@ static void runs(void) {
             else if (what < 60) answered[expect_event(words, 5, 0)]++;
             else answered[expect_event(words, 6, 0)]++;
         }
+        before += words[AHZ_S_BEFORE_FIRST];
+        missed += words[AHZ_S_LOST] - words[AHZ_S_BEFORE_FIRST];
     }
     for (i = 0; i < COUNT(answers_met); i++) EXPECT(answered[answers_met[i]] > 100);
-    EXPECT(answered[AHZ_R_STATE] == 0);
+    EXPECT(answered[AHZ_R_STATE] == 0 && before > 100 && missed > 100);
 }
 
 static uint64_t any_counter(void) {
@@ -254,6 +257,8 @@ static PaperState any_state(void) {
         state.newest = roll() % 4 == 0 ? (65533 + roll() % 6) % 65536 : roll() % 65536;
         if (state.left == 0) state.left = 1;
         for (k = 0; k < state.setup.history && state.setup.rule == 0; k++) state.marks[k] = k == 0 || roll() % 3 > 0;
+        state.first = roll() % (state.setup.history + 1);
+        if (state.first > 0 && state.marks[state.first - 1] == 0) state.first = 0;
     }
     for (k = AHZ_S_PASSED; k < AHZ_S_BASE; k++) *paper_field(&state, k) = any_counter();
     /* The base: about as far from the figure as the difference is, on both sides, and as far away as can be. */
@@ -274,7 +279,7 @@ static void single_events(void) {
         answers[expect_event(same, 6, 0) == AHZ_LATENT_ERROR]++;
     }
     EXPECT(answers[0] > 50 && answers[1] > 50);
-    for (n = 0; n < 200; n++) { /* all eight counters at the last number before they wrap */
+    for (n = 0; n < 200; n++) { /* all nine counters at the last number before they wrap */
         PaperState state = any_state();
         uint64_t words[AHZ_S_WORDS];
         unsigned k;
@@ -288,7 +293,7 @@ static void single_events(void) {
 static void unsound(void) {
     static const uint64_t numbers[] = {0, 1, 2, 3, 4, 7, 8, 9, 63, 64, 65, 255, 256, 257, 258, 9999, 10000, 10001, 65534, 65535, 65536,
                                        3600000, 3600001, UINT32_MAX, UINT64_C(1) << 32, (UINT64_C(1) << 32) + 1, UINT64_C(1) << 63,
-                                       UINT64_MAX, 0x41485A01, 0x41485A03, 0x025A4841};
+                                       UINT64_MAX, 0x41485A02, 0x41485A04, 0x035A4841};
     unsigned n, word, refused = 0;
     size_t i;
     for (n = 0; n < 12; n++) {
@@ -301,6 +306,7 @@ static void unsound(void) {
         if (state.take_any == 1) state.newest = 65535;
         if (state.take_any == 0 && state.left == 0) state.left = 1;
         if (state.take_any == 0 && state.setup.rule == 0) state.marks[0] = 1;
+        state.first = state.take_any == 0 && state.setup.rule == 0;
         paper_words(&state, words);
         EXPECT(paper_state(words, &changed) == 1);
         for (word = 0; word <= AHZ_S_LEFT; word++) {
@@ -316,6 +322,33 @@ static void unsound(void) {
         }
     }
     EXPECT(refused > 1000);
+}
+
+/* Every number about the ends of the window, and numbers that no place has, for the first place of states of every kind. It is sound where
+ * there is none, and under vector where a number has been heard and the mark of that place is set; else every step refuses it. */
+static void first_places(void) {
+    static const uint64_t beyond[] = {127, 128, 129, 255, 256, 257, 65535, 65536, 65537, UINT32_MAX, UINT64_C(1) << 32,
+                                      (UINT64_C(1) << 32) + 1, UINT64_C(1) << 63, (UINT64_C(1) << 63) + 1, UINT64_MAX};
+    unsigned n, sound[2] = {0, 0};
+    uint64_t i;
+    uint8_t kind;
+    for (n = 0; n < 120; n++) {
+        PaperState state = any_state();
+        uint64_t words[AHZ_S_WORDS], other[AHZ_S_WORDS];
+        paper_words(&state, words);
+        for (i = 0; i < 68 + COUNT(beyond); i++) {
+            const uint64_t first = i < 68 ? i : beyond[i - 68];
+            const int heard = words[AHZ_S_RULE] == AHZ_RULE_VECTOR && words[AHZ_S_TAKE_ANY] == 0;
+            const int right = first == 0 || (heard && first <= words[AHZ_S_HISTORY] && (words[AHZ_S_MARKS] >> (first - 1) & 1) == 1);
+            words[AHZ_S_FIRST] = first;
+            sound[right]++;
+            for (kind = 1; kind <= 6; kind++) {
+                memcpy(other, words, sizeof other);
+                EXPECT((expect_event(other, kind, (uint16_t)(words[AHZ_S_NEWEST] + 1)) == AHZ_R_STATE) == !right);
+            }
+        }
+    }
+    EXPECT(sound[0] > 1000 && sound[1] > 500);
 }
 
 static void expect_no_state(const uint64_t *words, size_t count) {
@@ -334,28 +367,31 @@ static void shorter(void) {
     for (count = 0; count < AHZ_S_WORDS; count++) expect_no_state(words, count);
 }
 
-/* The 21 words that version 1 had, by themselves and at the start of a longer record; and the words of this version under that format. */
-static void version_1(void) {
-    unsigned n;
+/* The words that older versions had, by themselves and at the start of a longer record; and the words of this version under their formats.
+ * Version 2 had no first place and no before-first, and version 1 no use either. */
+static void older_versions(void) {
+    static const unsigned gone[] = {AHZ_S_BEFORE_FIRST, AHZ_S_FIRST, AHZ_S_USE};
+    unsigned n, k;
     for (n = 0; n < 100; n++) {
         PaperState state = any_state();
-        uint64_t words[AHZ_S_WORDS], old[AHZ_S_WORDS + 1];
+        uint64_t words[AHZ_S_WORDS], old[AHZ_S_WORDS + 1] = {0};
+        size_t count;
         paper_words(&state, words);
         EXPECT(ahz_latent_test(words, AHZ_S_WORDS) != AHZ_R_STATE);
-        words[0] = 0x41485A01;
         memcpy(old, words, sizeof words);
-        memmove(old + 3, old + 4, 18 * 8); /* all that stands behind the use */
-        old[21] = old[22] = 0;
-        expect_no_state(words, 22);
-        expect_no_state(old, 21);
-        expect_no_state(old, 22);
-        expect_no_state(old, 23);
+        for (k = 0; k < COUNT(gone); k++) {
+            memmove(old + gone[k], old + gone[k] + 1, (AHZ_S_WORDS - gone[k]) * sizeof old[0]);
+            if (k == 0) continue;
+            words[0] = old[0] = 0x41485A03 - k;
+            expect_no_state(words, 24);
+            for (count = 21; count <= AHZ_S_WORDS + 1; count++) expect_no_state(old, count);
+        }
     }
 }
 
 /* A fresh state of that setup; its full ticks are 10. */
 static void begin(uint64_t *words, unsigned rule, unsigned use, uint16_t history) {
-    EXPECT(ahz_fresh_v2((uint8_t)rule, AHZ_NOT_TAKEN, (uint8_t)use, history, 100, 100, 2, 1, words, AHZ_S_WORDS) == AHZ_DONE);
+    EXPECT(ahz_fresh_v3((uint8_t)rule, AHZ_NOT_TAKEN, (uint8_t)use, history, 100, 100, 2, 1, words, AHZ_S_WORDS) == AHZ_DONE);
 }
 
 /* The paper's edges, as it writes them: a rule, H, then numbers with their verdicts, order and rogue at the end. Both uses agree. */
@@ -386,35 +422,47 @@ static void edges(void) {
 }
 
 /* Slides worked out by hand, which the paper's loop is held to as well: at the ends of a word, about its middle, and in windows that do not
- * fill one. H, d and the marks; then the marks after it, and how many clear ones left. The number and every counter that changes wrap. */
+ * fill one. H, d, the marks and the first place; then the marks and the first place after it, and how many clear ones left, in all and from
+ * below the first place. The number and every counter that changes wrap. */
 static void slides(void) {
     static const struct {
         uint16_t history, d;
-        uint64_t marks, later, lost;
+        uint64_t marks, first, later, later_first, lost, before;
     } cases[] = {
-        {2, 1, 0x1, 0x3, 1}, /* only the newest is marked */
-        {2, 1, 0x3, 0x3, 0},
-        {3, 2, 0x1, 0x5, 2},
-        {3, 2, 0x3, 0x5, 1},
-        {4, 3, 0xF, 0x9, 0},
-        {4, 1, 0x7, 0xF, 1},
-        {63, 1, UINT64_C(0x7FFFFFFFFFFFFFFF), UINT64_C(0x7FFFFFFFFFFFFFFF), 0}, /* none comes to place 63 */
-        {63, 1, UINT64_C(0x4000000000000001), 0x3, 0},
-        {63, 62, 0x1, UINT64_C(0x4000000000000001), 62},
-        {63, 62, UINT64_C(0x7FFFFFFFFFFFFFFF), UINT64_C(0x4000000000000001), 0},
-        {64, 1, 0x1, 0x3, 1},
-        {64, 1, UINT64_MAX, UINT64_MAX, 0},
-        {64, 1, UINT64_C(0x8000000000000001), 0x3, 0}, /* the last leaves */
-        {64, 1, UINT64_C(0x4000000000000001), UINT64_C(0x8000000000000003), 1}, /* and the one before it becomes the last */
-        {64, 1, UINT64_C(0x7FFFFFFFFFFFFFFF), UINT64_MAX, 1},
-        {64, 32, UINT64_C(0x00000000FFFFFFFF), UINT64_C(0xFFFFFFFF00000001), 32},
-        {64, 32, UINT64_C(0xFFFFFFFF00000001), UINT64_C(0x0000000100000001), 0},
-        {64, 62, 0x3, UINT64_C(0xC000000000000001), 62},
-        {64, 62, 0x5, UINT64_C(0x4000000000000001), 61},
-        {64, 63, 0x1, UINT64_C(0x8000000000000001), 63}, /* all leave but the newest */
-        {64, 63, 0x3, UINT64_C(0x8000000000000001), 62},
-        {64, 63, UINT64_C(0x8000000000000001), UINT64_C(0x8000000000000001), 62},
-        {64, 63, UINT64_MAX, UINT64_C(0x8000000000000001), 0},
+        {2, 1, 0x1, 1, 0x3, 2, 1, 1}, /* only the newest is marked */
+        {2, 1, 0x1, 0, 0x3, 0, 1, 0},
+        {2, 1, 0x3, 1, 0x3, 2, 0, 0},
+        {2, 1, 0x3, 2, 0x3, 0, 0, 0},
+        {3, 2, 0x1, 1, 0x5, 3, 2, 2},
+        {3, 2, 0x3, 2, 0x5, 0, 1, 1},
+        {4, 3, 0xF, 1, 0x9, 4, 0, 0},
+        {4, 1, 0x7, 3, 0xF, 4, 1, 1},
+        {4, 3, 0x5, 3, 0x9, 0, 2, 1}, /* one above the first place, and one below it */
+        {4, 2, 0x5, 3, 0x5, 0, 1, 1}, /* the first place leaves, and the one above it stays */
+        {63, 1, UINT64_C(0x7FFFFFFFFFFFFFFF), 63, UINT64_C(0x7FFFFFFFFFFFFFFF), 0, 0, 0}, /* none comes to place 63 */
+        {63, 1, UINT64_C(0x4000000000000001), 1, 0x3, 2, 0, 0},
+        {63, 1, UINT64_C(0x2000000000000001), 62, UINT64_C(0x4000000000000003), 63, 1, 1},
+        {63, 62, 0x1, 1, UINT64_C(0x4000000000000001), 63, 62, 62},
+        {63, 62, UINT64_C(0x7FFFFFFFFFFFFFFF), 2, UINT64_C(0x4000000000000001), 0, 0, 0},
+        {64, 1, 0x1, 1, 0x3, 2, 1, 1},
+        {64, 1, UINT64_MAX, 64, UINT64_MAX, 0, 0, 0},
+        {64, 1, UINT64_C(0x8000000000000001), 64, 0x3, 0, 0, 0}, /* the last leaves */
+        {64, 1, UINT64_C(0x4000000000000001), 63, UINT64_C(0x8000000000000003), 64, 1, 1}, /* and the one before it becomes the last */
+        {64, 1, UINT64_C(0x7FFFFFFFFFFFFFFF), 40, UINT64_MAX, 41, 1, 1},
+        {64, 8, 0x80000001, 32, UINT64_C(0x8000000101), 40, 8, 8},
+        {64, 32, UINT64_C(0x00000000FFFFFFFF), 32, UINT64_C(0xFFFFFFFF00000001), 64, 32, 32},
+        {64, 32, UINT64_C(0xFFFFFFFF00000001), 33, UINT64_C(0x0000000100000001), 0, 0, 0},
+        {64, 40, 0x80000001, 32, UINT64_C(0x0000010000000001), 0, 39, 32}, /* 7 above the first place, 32 below it */
+        {64, 40, 0x80000001, 1, UINT64_C(0x0000010000000001), 41, 39, 39},
+        {64, 62, 0x3, 2, UINT64_C(0xC000000000000001), 64, 62, 62},
+        {64, 62, 0x5, 3, UINT64_C(0x4000000000000001), 0, 61, 61},
+        {64, 63, 0x1, 1, UINT64_C(0x8000000000000001), 64, 63, 63}, /* all leave but the newest */
+        {64, 63, 0x1, 0, UINT64_C(0x8000000000000001), 0, 63, 0},
+        {64, 63, 0x3, 2, UINT64_C(0x8000000000000001), 0, 62, 62},
+        {64, 63, UINT64_C(0x8000000000000001), 64, UINT64_C(0x8000000000000001), 0, 62, 0},
+        {64, 63, UINT64_C(0xC000000000000001), 63, UINT64_C(0x8000000000000001), 0, 61, 0},
+        {64, 63, UINT64_C(0x4000000000000001), 63, UINT64_C(0x8000000000000001), 0, 62, 1},
+        {64, 63, UINT64_MAX, 1, UINT64_C(0x8000000000000001), 64, 0, 0},
     };
     size_t i;
     for (i = 0; i < COUNT(cases); i++) {
@@ -423,17 +471,121 @@ static void slides(void) {
         begin(words, AHZ_RULE_VECTOR, AHZ_USE_SEQUENCE, cases[i].history);
         words[AHZ_S_NEWEST] = 65535;
         words[AHZ_S_MARKS] = cases[i].marks;
+        words[AHZ_S_FIRST] = cases[i].first;
         words[AHZ_S_TAKE_ANY] = 0;
         words[AHZ_S_LEFT] = 3;
-        words[AHZ_S_PASSED] = words[AHZ_S_ORDER] = words[AHZ_S_LOST] = UINT64_MAX;
+        words[AHZ_S_PASSED] = words[AHZ_S_ORDER] = words[AHZ_S_LOST] = words[AHZ_S_BEFORE_FIRST] = UINT64_MAX;
         memcpy(expected, words, sizeof expected);
         expected[AHZ_S_NEWEST] = number;
         expected[AHZ_S_MARKS] = cases[i].later;
+        expected[AHZ_S_FIRST] = cases[i].later_first;
         expected[AHZ_S_LEFT] = 10;
         expected[AHZ_S_PASSED]++;
         expected[AHZ_S_ORDER] += d != 1;
         expected[AHZ_S_LOST] += cases[i].lost;
+        expected[AHZ_S_BEFORE_FIRST] += cases[i].before;
         EXPECT(expect_event(words, 1, number) == AHZ_PASS && memcmp(words, expected, sizeof expected) == 0);
+    }
+}
+
+/* ---- Holes before the first packet ---- */
+
+/* Events that are no packet with a number: the tape's kinds of them, and a timeout. */
+enum { TAGLESS = -2, TICK = -3, RESET = -4, LATENT_RESET = -5, TIMEOUT = -7 };
+
+/* Worked out by hand: a rule, H and events, then lost and before-first, and word 11 at the end. */
+static void holes(void) {
+    static const struct {
+        uint8_t rule;
+        uint16_t history;
+        int32_t events[10];
+        size_t count;
+        uint64_t lost, before, first;
+    } cases[] = {
+        {0, 4, {10}, 1, 0, 0, 1},
+        {0, 4, {10, 12, 11}, 3, 2, 2, 3},                  /* 7 and 8 have left; 9 is open */
+        {0, 4, {10, 10, 12, 11, 20}, 5, 2, 2, 3},          /* the paper's tape: a repeat and a rogue leave all of it */
+        {0, 4, {10, 13}, 2, 3, 3, 4},                      /* the first place is the last of the window */
+        {0, 4, {10, 13, 14}, 3, 3, 3, 0},                  /* and leaves it: it has passed, and is no hole */
+        {0, 4, {10, 12, 14}, 3, 3, 3, 0},                  /* 9, below it, and 10 itself */
+        {0, 4, {10, 12, 15}, 3, 4, 3, 0},                  /* 9 below it, and 11 above it: from both sides in one slide */
+        {0, 4, {10, 12, 15, 18}, 4, 6, 3, 0},              /* without it in the window, none is before it: 13 and 14 */
+        {0, 4, {10, 8, 12}, 3, 1, 1, 3},                   /* 8 is below it, late, and passes: it is no hole, and 7 is */
+        {0, 4, {10, 7, 8, 9, 13}, 5, 0, 0, 4},
+        {0, 2, {10, 11}, 2, 1, 1, 2},                      /* the shortest window */
+        {0, 2, {10, 11, 12, 13}, 4, 1, 1, 0},
+        {0, 3, {10, 12, 13}, 3, 2, 2, 0},
+        {0, 3, {10, 12, 13, 14}, 4, 3, 2, 0},              /* 11 is next to it and above it */
+        {0, 8, {100, 103, 107}, 3, 7, 7, 8},               /* 93 to 99 */
+        {0, 8, {100, 103, 107, 110}, 4, 9, 7, 0},          /* 101 and 102 */
+        {0, 64, {1000, 1063}, 2, 63, 63, 64},              /* the longest */
+        {0, 64, {1000, 1063, 1064}, 3, 63, 63, 0},
+        {0, 64, {1000, 1063, 1126}, 3, 125, 63, 0},        /* 1001 to 1062 */
+        {0, 64, {1000, 1001, 1064}, 3, 63, 63, 0},
+        {0, 4, {65535, 1}, 2, 2, 2, 3},                    /* across 65,535 */
+        {0, 4, {0, 2, 5}, 3, 4, 3, 0},
+        {0, 4, {65533, 65535, 2}, 3, 4, 3, 0},
+        {0, 4, {TAGLESS, TICK, 10, TAGLESS, TICK, 12}, 6, 2, 2, 3},
+        {0, 4, {10, 12, LATENT_RESET}, 3, 2, 2, 3},        /* a latent reset leaves it */
+        {0, 4, {10, 12, LATENT_RESET, 15}, 4, 4, 3, 0},
+        {0, 4, {10, 12, RESET}, 3, 2, 2, 0},               /* a reset keeps the counters and no place */
+        {0, 4, {10, 12, RESET, 10}, 4, 2, 2, 1},
+        {0, 4, {10, 12, RESET, 100, 102, 105}, 6, 6, 5, 0}, /* three more below, 97, 98 and 99, and one above, 101 */
+        {0, 4, {10, 12, TIMEOUT}, 3, 2, 2, 0},             /* as does a timeout */
+        {0, 4, {10, 12, 15, TIMEOUT, 10, 11}, 6, 5, 4, 2},
+        {0, 4, {RESET, RESET, 10, 11, RESET, 10, 11}, 7, 2, 2, 2},
+        {1, 4, {5}, 1, 0, 0, 0},                           /* match keeps none */
+        {1, 4, {5, 9, 7, RESET, 5, 8}, 6, 0, 0, 0},
+    };
+    size_t i, k;
+    for (i = 0; i < COUNT(cases); i++) {
+        uint64_t words[AHZ_S_WORDS];
+        begin(words, cases[i].rule, AHZ_USE_SEQUENCE, cases[i].history);
+        for (k = 0; k < cases[i].count; k++) {
+            const int32_t what = cases[i].events[k];
+            unsigned tick;
+            if (what >= 0) (void)expect_event(words, 1, (uint16_t)what);
+            else if (what != TIMEOUT) (void)expect_event(words, (uint8_t)-what, 0);
+            for (tick = 1; what == TIMEOUT && tick <= 10; tick++) EXPECT(expect_event(words, 3, 0) == (tick < 10 ? AHZ_TICK : AHZ_RESET));
+        }
+        EXPECT(words[AHZ_S_LOST] == cases[i].lost && words[AHZ_S_BEFORE_FIRST] == cases[i].before);
+        EXPECT(words[AHZ_S_FIRST] == cases[i].first);
+    }
+}
+
+/* Spans from a start or a reset to the next, counted from their packets alone: of the places that the window has left, those that no packet
+ * passed at are lost. Below the first place they are before-first, and above it what is left of lost. */
+static void spans(void) {
+    enum { FIRST = 64, PACKETS = 60, PLACES = FIRST + 63 * PACKETS };
+    static const uint16_t histories[] = {2, 3, 4, 8, 33, 63, 64};
+    size_t i;
+    unsigned span, packet;
+    for (i = 0; i < COUNT(histories); i++) {
+        const int history = histories[i];
+        uint64_t words[AHZ_S_WORDS];
+        begin(words, AHZ_RULE_VECTOR, AHZ_USE_SEQUENCE, histories[i]);
+        words[AHZ_S_LOST] = UINT64_MAX - 20;
+        words[AHZ_S_BEFORE_FIRST] = UINT64_MAX - 10;
+        for (span = 0; span < 20; span++) {
+            const uint64_t lost = words[AHZ_S_LOST], before = words[AHZ_S_BEFORE_FIRST], number = roll();
+            const int reach = span % 2 == 0 ? history : 2;
+            uint8_t passed[PLACES] = {0};
+            int newest = FIRST, place;
+            for (packet = 0; packet < PACKETS; packet++) {
+                const int at = packet == 0 ? FIRST : newest - reach + (int)(roll() % (2 * (unsigned)reach + 1));
+                const int passes = at > newest - history && at < newest + history && passed[at] == 0;
+                uint64_t below = 0, above = 0;
+                EXPECT(ahz_numbered(words, AHZ_S_WORDS, (uint16_t)(number + (unsigned)at)) == (passes ? AHZ_PASS : AHZ_DISCARD));
+                if (passes) passed[at] = 1;
+                if (passes && at > newest) newest = at;
+                for (place = FIRST - history + 1; place <= newest - history; place++) {
+                    below += place < FIRST && passed[place] == 0;
+                    above += place > FIRST && passed[place] == 0;
+                }
+                EXPECT(words[AHZ_S_BEFORE_FIRST] - before == below && words[AHZ_S_LOST] - lost == below + above);
+            }
+            EXPECT(ahz_reset(words, AHZ_S_WORDS) == AHZ_DONE);
+        }
     }
 }
 
@@ -530,7 +682,7 @@ static void typed(void) {
         ahz_state_t words;
         ahz_setup_t setup;
         ahz_counters_t counters;
-        uint16_t newest = 0x5A5A;
+        uint16_t newest = 0x5A5A, below = 0xA5A5;
         paper_words(&state, words.words);
         setup = ahz_state_setup(&words);
         counters = ahz_state_counters(&words);
@@ -540,10 +692,13 @@ static void typed(void) {
         EXPECT(counters.passed == state.passed && counters.discarded == state.discarded && counters.order == state.order);
         EXPECT(counters.rogue == state.rogue && counters.lost == state.lost && counters.tagless == state.tagless);
         EXPECT(counters.resets == state.resets && counters.latent_resets == state.latent_resets);
+        EXPECT(counters.before_first == state.before_first);
         EXPECT(ahz_state_ticks_left(&words).ticks == state.left && ahz_state_base(&words) == state.base);
         EXPECT(ahz_state_marks(&words) == words.words[AHZ_S_MARKS]);
         EXPECT(ahz_state_newest(&words, &newest) == (state.take_any == 0));
         EXPECT(newest == (state.take_any == 0 ? state.newest : 0x5A5A));
+        EXPECT(ahz_state_first(&words, &below) == (state.first > 0));
+        EXPECT(below == (state.first > 0 ? state.first - 1 : 0xA5A5));
     }
 }
 
@@ -562,7 +717,7 @@ static void answers(void) {
 }
 
 int main(void) {
-    static void (*const parts[])(void) = {edges, slides, discards, before_any_number, stuck_sender, numbering, ticks, setups, setup_order,
-                                          runs, single_events, unsound, shorter, version_1, typed, answers};
+    static void (*const parts[])(void) = {edges, slides, holes, spans, discards, before_any_number, stuck_sender, numbering, ticks, setups,
+                                          setup_order, runs, single_events, unsound, first_places, shorter, older_versions, typed, answers};
     return run_tests("tests/c/states.c", parts, COUNT(parts));
 }

@@ -1,4 +1,4 @@
-/* The call for a bench tape: the whole output of each tape against document 01, in a buffer for every tape, in one that just holds it, and
+/* The call for a bench tape: the whole output of each tape against the papers, in a buffer for every tape, in one that just holds it, and
  * in none that is shorter. */
 #include "check.h"
 #include "paper.h"
@@ -13,7 +13,7 @@ static void expect_output(size_t octets, size_t room) {
     const uint8_t *lent = lend(&first, tape, octets);
     uint8_t *out = lend(&second, NULL, room);
     size_t *length = (size_t *)lend_aligned(&third, NULL, sizeof lines_octets);
-    EXPECT(ahz_tape_v2(lent, octets, out, room, length) == answer);
+    EXPECT(ahz_tape_v3(lent, octets, out, room, length) == answer);
     EXPECT(kept_but(&first, 0) && holds(&second, lines, answer == AHZ_DONE ? lines_octets : 0));
     EXPECT(holds(&third, &lines_octets, answer == AHZ_DONE ? sizeof lines_octets : 0));
 }
@@ -45,23 +45,26 @@ static void written(void) {
     } tapes[] = {
         {{WORKED, 1, 0, 10, 1, 0, 10, 1, 0, 12, 1, 0, 11, 1, 0, 20, 6}, SETUP + 16,
          "ok\npass\ndiscard\npass\npass\ndiscard\nlatent ok\n"
-         "passed=3 discarded=2 order=2 rogue=1 lost=2 tagless=0 resets=0 latent-resets=0\n"},
+         "passed=3 discarded=2 order=2 rogue=1 lost=2 tagless=0 resets=0 latent-resets=0 before-first=2\n"},
         {{ONE_TICK, 2, 3, 3, 1, 1, 2, 1, 1, 2, 6, 5, 6, 4}, SETUP + 13,
          "ok\npass\nreset\ntick\npass\ndiscard\nlatent error\nlatent reset\nlatent ok\nreset\n"
-         "passed=2 discarded=1 order=0 rogue=0 lost=0 tagless=1 resets=2 latent-resets=1\n"},
+         "passed=2 discarded=1 order=0 rogue=0 lost=0 tagless=1 resets=2 latent-resets=1 before-first=0\n"},
         {{THREE_TICKS(0), 1, 0, 7, 3, 3, 1, 0, 7, 3, 3, 1, 0, 7}, SETUP + 13, /* a stuck sender: the timer runs out under it */
          "ok\npass\ntick\ntick\ndiscard\nreset\ntick\npass\n"
-         "passed=2 discarded=1 order=0 rogue=0 lost=0 tagless=0 resets=1 latent-resets=0\n"},
+         "passed=2 discarded=1 order=0 rogue=0 lost=0 tagless=0 resets=1 latent-resets=0 before-first=0\n"},
         {{THREE_TICKS(1), 1, 0, 7, 3, 3, 1, 0, 7, 3, 3, 1, 0, 7}, SETUP + 13, /* and in individual use it does not */
          "ok\npass\ntick\ntick\ndiscard\ntick\ntick\ndiscard\n"
-         "passed=1 discarded=2 order=0 rogue=0 lost=0 tagless=0 resets=0 latent-resets=0\n"},
+         "passed=1 discarded=2 order=0 rogue=0 lost=0 tagless=0 resets=0 latent-resets=0 before-first=0\n"},
         {{THREE_TICKS(0), 2, 3, 3, 3}, SETUP + 4, /* no number yet: the timer stands */
          "ok\ndiscard\ntick\ntick\ntick\n"
-         "passed=0 discarded=1 order=0 rogue=0 lost=0 tagless=1 resets=0 latent-resets=0\n"},
+         "passed=0 discarded=1 order=0 rogue=0 lost=0 tagless=1 resets=0 latent-resets=0 before-first=0\n"},
         {{THREE_TICKS(1), 2, 3, 3, 3}, SETUP + 4, /* and in individual use it runs */
          "ok\ndiscard\ntick\ntick\nreset\n"
-         "passed=0 discarded=1 order=0 rogue=0 lost=0 tagless=1 resets=1 latent-resets=0\n"},
-        {{WORKED}, SETUP, "ok\npassed=0 discarded=0 order=0 rogue=0 lost=0 tagless=0 resets=0 latent-resets=0\n"},
+         "passed=0 discarded=1 order=0 rogue=0 lost=0 tagless=1 resets=1 latent-resets=0 before-first=0\n"},
+        {{WORKED, 1, 0, 10, 1, 0, 12, 1, 0, 15, 4, 1, 0, 20, 1, 0, 21}, SETUP + 16, /* lost are 7, 8, 9, 11 and then 17: 11 is missed */
+         "ok\npass\npass\npass\nreset\npass\npass\n"
+         "passed=5 discarded=0 order=2 rogue=0 lost=5 tagless=0 resets=1 latent-resets=0 before-first=4\n"},
+        {{WORKED}, SETUP, "ok\npassed=0 discarded=0 order=0 rogue=0 lost=0 tagless=0 resets=0 latent-resets=0 before-first=0\n"},
         {{0}, 0, "fault 25\n"},
         {{3}, 1, "fault 25\n"},
         {{1, 0, 10}, 3, "fault 25\n"},
@@ -86,7 +89,7 @@ static void written(void) {
         {{0x0F, 1, 1, 1, 0, 64, 0, 0x36, 0xEE, 0x80, 0x27, 0x11, 1, 0, 0, 0, 0}, SETUP, "fault 18\n"},
         {{0x0F, 1, 1, 1, 0, 64, 0, 0x36, 0xEE, 0x80, 0x27, 0x10, 9, 0, 0, 0, 0}, SETUP, "fault 19\n"},
         {{0x0F, 1, 1, 1, 0, 64, 0, 0x36, 0xEE, 0x80, 0x27, 0x10, 8, 0xFF, 0xFF, 0xFF, 0xFF}, SETUP,
-         "ok\npassed=0 discarded=0 order=0 rogue=0 lost=0 tagless=0 resets=0 latent-resets=0\n"},
+         "ok\npassed=0 discarded=0 order=0 rogue=0 lost=0 tagless=0 resets=0 latent-resets=0 before-first=0\n"},
     };
     size_t i, octets;
     for (i = 0; i < COUNT(tapes); i++) {
@@ -196,6 +199,11 @@ static void longest(void) {
             EXPECT(expected_is("fault 26\n"));
         }
     }
+    memcpy(tape, good[0], SETUP);
+    tape[5] = AHZ_HISTORY_MOST;
+    for (at = SETUP; at + 7 <= 4096; at += 7) memcpy(tape + at, "\1\0\0\1\0\77\4", 7); /* 0, 63 and a reset, 582 times */
+    expect_tape(at);
+    EXPECT(strstr(lines, " lost=36666 ") != NULL && strstr(lines, " before-first=36666\n") != NULL);
     memset(tape, 0, sizeof tape);
     expect_tape(4096);
     EXPECT(expected_is("fault 23\n"));

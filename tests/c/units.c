@@ -161,6 +161,12 @@ int main(void) {
 #if MIXUP == 40 /* warned: a setup checked by the call of version 1 */
     answer = ahz_check_setup(0, 0, 8, 100, 100, 2, 1);
 #endif
+#if MIXUP == 41 /* warned: a fresh state by the call of version 2 */
+    answer = ahz_fresh_v2(0, 0, 0, 8, 100, 100, 2, 1, state.words, AHZ_S_WORDS);
+#endif
+#if MIXUP == 42 /* a first place, without asking whether it stands in the window */
+    number = ahz_state_first(&state);
+#endif
     right = right && answer != AHZ_DONE && number == 0;
     if (!right) printf("tests/c/units.c: without a mistake, a wrong answer\n");
     return right ? 0 : 1;

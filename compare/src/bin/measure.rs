@@ -70,6 +70,11 @@ mod called {
     }
 
     #[inline(never)]
+    pub fn reset(state: &mut State) -> Result<(), u8> {
+        state.reset_in_place()
+    }
+
+    #[inline(never)]
     pub fn latent_test(state: &State) -> Result<bool, u8> {
         state.latent_test()
     }
@@ -305,6 +310,30 @@ fn tagless(what: &str, kind: Kind) -> Figure {
     )
 }
 
+/// A reset and the packets after it, together: the first place stands in the window.
+fn after_a_reset(what: &str, numbers: &[u16]) -> Figure {
+    let (mut ours, mut plain) = begun(VECTOR);
+    both(
+        what,
+        |times| {
+            repeat(times, || {
+                black_box(&black_box(&mut ours.0).reset());
+                for &number in numbers {
+                    black_box(&black_box(&mut ours.0).hear(black_box(Some(number))));
+                }
+            })
+        },
+        |times| {
+            repeat(times, || {
+                black_box(&called::reset(black_box(&mut plain.0)));
+                for &number in numbers {
+                    black_box(&called::packet(black_box(&mut plain.0), black_box(Some(number))));
+                }
+            })
+        },
+    )
+}
+
 fn steps(figures: &mut Vec<Figure>) {
     let back = 1u16.wrapping_neg();
     figures.push(step("step in order, H 64", VECTOR, 1, [1, 1]));
@@ -314,6 +343,9 @@ fn steps(figures: &mut Vec<Figure>) {
     let short = (Rule::Vector, Usage::Sequence, 4);
     figures.push(step("step with a slide of 3, H 4", short, 3, [3, 3]));
     figures.push(step("step with a slide of 63, H 64", VECTOR, 63, [63, 63]));
+    // No slide above has a first place left in the window. The last step of the second of these has.
+    figures.push(after_a_reset("reset and first packet, H 64", &[10]));
+    figures.push(after_a_reset("reset, first packet and a slide of 63, H 64", &[10, 73]));
     figures.push(step("step in order, match", MATCH, 1, [1, 1]));
     figures.push(tagless("step without a number", VECTOR));
     // What is discarded restarts the timer here.

@@ -8,8 +8,8 @@ pub const LONGEST: usize = 4_096;
 
 /// "latent reset" and its newline, which one octet asks for.
 const LONGEST_LINE: usize = 13;
-/// Eight counters of up to twenty digits with their names, or a fault: 231 octets at most.
-const LAST_LINE: usize = 256;
+/// Nine counters of up to twenty digits with their names, or a fault.
+const LAST_LINE: usize = 265;
 
 const PACKET: u8 = 0x01;
 const NO_NUMBER: u8 = 0x02;
@@ -120,13 +120,23 @@ fn put_verdict(out: &mut Vec<u8>, verdict: Verdict) {
 }
 
 fn put_counters(out: &mut Vec<u8>, counters: &Counters) {
-    let Counters { passed, discarded, order, rogue, lost, tagless, resets, latent_resets } =
-        counters;
+    let Counters {
+        passed,
+        discarded,
+        order,
+        rogue,
+        lost,
+        tagless,
+        resets,
+        latent_resets,
+        before_first,
+    } = counters;
     put(
         out,
         format_args!(
             "passed={passed} discarded={discarded} order={order} rogue={rogue} lost={lost} \
-             tagless={tagless} resets={resets} latent-resets={latent_resets}"
+             tagless={tagless} resets={resets} latent-resets={latent_resets} \
+             before-first={before_first}"
         ),
     );
 }

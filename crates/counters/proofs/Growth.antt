@@ -8,15 +8,15 @@ use Rattle.counters.specs.Growth.{Grown, PacketsGrow, ResetsStay, Latent
 
 pub packets-grow : PacketsGrow
 unfolding plus counted
-packets-grow k tagless effect = record { passed-grown = mod-mod _ _; lost-grown = mod-mod _ _ }
+packets-grow k tagless holes effect = record { passed-grown = mod-mod _ _; lost-grown = mod-mod _ _; before-grown = mod-mod _ _ }
 
 pub resets-stay : ResetsStay
 unfolding resetCounted
-resets-stay k = record { same-passed = refl; same-lost = refl }
+resets-stay k = record { same-passed = refl; same-lost = refl; same-before = refl }
 
 pub latent-resets-stay : LatentResetsStay
 unfolding latentCounted
-latent-resets-stay k = record { same-passed = refl; same-lost = refl }
+latent-resets-stay k = record { same-passed = refl; same-lost = refl; same-before = refl }
 
 -- a counter that has grown, and grows once more
 pub grown-more : (a n b m c : ℕ) → Grown a n b → Grown b m c → Grown a (n + m) c

@@ -12,8 +12,9 @@ pub starts-at-zero-one : {a b : Counters} → StartsAtZero a → StartsAtZero b 
 starts-at-zero-one = one
 
 module _ (k : Counters) where
-  pub counts-one : (tagless : ℕ) (effect : Effect) {a b : Counters} → Counts k tagless effect a → Counts k tagless effect b → a ≡ b
-  counts-one tagless effect = one
+  pub counts-one : (tagless holes : ℕ) (effect : Effect) {a b : Counters} → Counts k tagless holes effect a
+      → Counts k tagless holes effect b → a ≡ b
+  counts-one tagless holes effect = one
 
   pub counts-reset-one : {a b : Counters} → CountsReset k a → CountsReset k b → a ≡ b
   counts-reset-one = one

@@ -35,6 +35,7 @@ latentCounted k =
       tagless = k .tagless;
       resets = k .resets;
       «latent_resets» = plus (k .«latent_resets») 1;
+      «before_first» = k .«before_first»;
     }
 
 -- the promises: of `figure`

@@ -15,18 +15,21 @@ pub fn none() -> Counters
         tagless: 0,
         resets: 0,
         latent_resets: 0,
+        before_first: 0,
     }
 }
 
-// Every count of a packet in one place: passed and discarded add 1 to their counters, a rogue's discard too.
-pub fn count(mut k: Counters, tagless: u64, e: Effect) -> Counters
-    ensures { λ r. ⌜ Counts k tagless e r ⌝ }
+// Every count of a packet in one place: passed and discarded add 1 to their counters, a rogue's discard too, and of the places lost the
+// holes are those below the first packet's.
+pub fn count(mut k: Counters, tagless: u64, holes: u64, e: Effect) -> Counters
+    ensures { λ r. ⌜ Counts k tagless holes e r ⌝ }
 {
     k.discarded = std::num::wrapping_add_u64(k.discarded, !e.passes as u64);
     k.passed = std::num::wrapping_add_u64(k.passed, e.passes as u64);
     k.order = std::num::wrapping_add_u64(k.order, e.order);
     k.rogue = std::num::wrapping_add_u64(k.rogue, e.rogue);
     k.lost = std::num::wrapping_add_u64(k.lost, e.lost);
+    k.before_first = std::num::wrapping_add_u64(k.before_first, holes);
     k.tagless = std::num::wrapping_add_u64(k.tagless, tagless);
     k
 }

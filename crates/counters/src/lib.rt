@@ -1,4 +1,4 @@
-// The eight counters of a recovery state, and the latent figure that two of them give (document 01, "Numbering and recovery"). A state has
+// The nine counters of a recovery state, and the latent figure that two of them give (document 01, "Numbering and recovery"). A state has
 // them in the room above, which says when they count.
 //
 // Each call takes any counters and any numbers at all, and always has an answer.
@@ -15,6 +15,7 @@ pub struct Counters {
     pub tagless: u64,
     pub resets: u64,
     pub latent_resets: u64,
+    pub before_first: u64,
 }
 
 pub use counting::count;

@@ -18,7 +18,7 @@ most (label ∷ rest) = length (octetsOf label) + 20 + most rest
 
 -- i counters are written, up to r
 pub record Counting (counters page₀ : List ℕ) (at : ℕ) (page : List ℕ) (r i : ℕ) : Type 0 where
-  pub few : i ≤ 8
+  pub few : i ≤ 9
   pub part : List ℕ
   pub appends : Appends part page₀ at r page
   pub room : r + most (drop i labels) + 1 ≤ at + longest
@@ -34,16 +34,16 @@ label-word : (i : ℕ) → wordAt (10 + i) ≡ octetsOf (getD labels i "")
 unfolding words lineWords
 label-word i = ap octetsOf (getD-append-add lineWords labels i "")
 
-first-of : (i : ℕ) → i < 8 → drop i labels ≡ getD labels i "" ∷ drop (suc i) labels
+first-of : (i : ℕ) → i < 9 → drop i labels ≡ getD labels i "" ∷ drop (suc i) labels
 unfolding labels
 first-of i p = drop-cons labels i "" p
 
 module _
     {counters page₀ page : List ℕ}
     {at r i : ℕ}
-    (eight : length counters ≡ 8)
+    (nine : length counters ≡ 9)
     (before : Counting counters page₀ at page r i)
-    (p : i < 8)
+    (p : i < 9)
   where
     -- there is room for the next counter and for the newline
     pub next-room : r + length (wordAt (10 + i)) + 20 + 1 ≤ at + longest
@@ -59,7 +59,7 @@ module _
         let one = label ++ decimal (getD counters i 0) in
         let written : Appends one page r _ _ = like (ap (λ (l : List ℕ). l ++ decimal (getD counters i 0)) (label-word i)) (x .appends) in
         let rest : counted (drop i labels) (drop i counters) ≡ one ++ counted (drop (suc i) labels) (drop (suc i) counters) =
-        rw (first-of i p, drop-cons counters i 0 (omega (arith, eight))) refl in
+        rw (first-of i p, drop-cons counters i 0 (omega (arith, nine))) refl in
         record {
           few = omega arith;
           part = before .part ++ one;
@@ -68,13 +68,13 @@ module _
           texts = rw (next, append-assoc (before .part) one) (rw (← rest) (before .texts));
         }
 
--- the newline behind all eight
-pub ends : {counters page₀ page later : List ℕ} {at r r′ i : ℕ} → Counting counters page₀ at page r i → 8 ≤ i
+-- the newline behind all nine
+pub ends : {counters page₀ page later : List ℕ} {at r r′ i : ℕ} → Counting counters page₀ at page r i → 9 ≤ i
     → Appends (wordAt 9) page r r′ later → AppendsWithin longest (countersText counters) page₀ at r′ later
 unfolding counted countersText words lineWords labels
 ends {counters} {i = i} done all x =
-    let eight : i ≡ 8 = omega (arith, done .few) in
-    let whole : done .part ≡ counted labels counters = sym (append-nil (done .part)) ∙ rw eight at (done .texts) in
+    let nine : i ≡ 9 = omega (arith, done .few) in
+    let whole : done .part ≡ counted labels counters = sym (append-nil (done .part)) ∙ rw nine at (done .texts) in
     record {
       appends = like (ap (λ (l : List ℕ). l ++ octetsOf "\n") whole) (one-behind-other (done .appends) x);
       short = omega (arith, done .room, x .ends);

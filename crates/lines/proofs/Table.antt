@@ -18,10 +18,10 @@ use Rattle.lines.specs.Words.{lineWords, words, wordAt, place}
 abbrev pub table : List ℕ
 table =
     octetsOf
-    "ok\npass\ndiscard\ntick\nreset\nlatent reset\nlatent ok\nlatent error\nfault \npassed= discarded= order= rogue= lost= tagless= resets= latent-resets="
+    "ok\npass\ndiscard\ntick\nreset\nlatent reset\nlatent ok\nlatent error\nfault \npassed= discarded= order= rogue= lost= tagless= resets= latent-resets= before-first="
 
 abbrev pub ends : List ℕ
-ends = 0 ∷ 3 ∷ 8 ∷ 16 ∷ 21 ∷ 27 ∷ 40 ∷ 50 ∷ 63 ∷ 69 ∷ 70 ∷ 77 ∷ 88 ∷ 95 ∷ 102 ∷ 108 ∷ 117 ∷ 125 ∷ 140 ∷ []
+ends = 0 ∷ 3 ∷ 8 ∷ 16 ∷ 21 ∷ 27 ∷ 40 ∷ 50 ∷ 63 ∷ 69 ∷ 70 ∷ 77 ∷ 88 ∷ 95 ∷ 102 ∷ 108 ∷ 117 ∷ 125 ∷ 140 ∷ 154 ∷ []
 
 -- one computed test over the table: each word is the part of it from the end of the word before to its own end
 same : List ℕ → List ℕ → Bool
@@ -73,13 +73,13 @@ from (a ∷ b ∷ es) (w ∷ ws) cut (suc i) e p =
     let next : suc i + 1 ≡ suc (i + 1) = omega arith in
     record { ordered = rw next (rest .ordered); within = rw next (rest .within); texts = rw next (rest .texts) }
 
-pub stands : (i : ℕ) → i < 18 → Stands ends words i
+pub stands : (i : ℕ) → i < 19 → Stands ends words i
 unfolding words lineWords labels
 stands i p = from ends words all-cut i refl p
 
 -- an event's line is one word, of at most 13 octets
 pub record Word (line : Line) : Type 0 where
-  pub there : place line < 18
+  pub there : place line < 19
   pub short : length (wordAt (place line)) ≤ 13
   pub texts : wordAt (place line) ≡ text line
 

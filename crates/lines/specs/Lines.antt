@@ -42,7 +42,8 @@ text LatentError = octetsOf "latent error\n"
 unfoldable pub faultText : ℕ → List ℕ
 faultText number = count "fault " number ++ octetsOf "\n"
 
--- "eight 64-bit counters (passed, discarded, order, rogue, lost, tagless, resets, latent-resets)", as the last line names them
+-- "eight 64-bit counters (passed, discarded, order, rogue, lost, tagless, resets, latent-resets)", as the last line names them, and CR 7:
+-- "The tape's last line gains ` before-first=N` at the end"
 unfoldable pub labels : List String
 labels =
     "passed="
@@ -53,6 +54,7 @@ labels =
     ∷ " tagless="
     ∷ " resets="
     ∷ " latent-resets="
+    ∷ " before-first="
     ∷ []
 
 -- each counter behind its label
@@ -65,6 +67,6 @@ counted (label ∷ rest) (n ∷ numbers) = count label n ++ counted rest numbers
 unfoldable pub countersText : List ℕ → List ℕ
 countersText counters = counted labels counters ++ octetsOf "\n"
 
--- no line is longer: the labels and the newline are 71 octets, and eight numbers at most 160
+-- no line is longer: the labels and the newline are 85 octets, and nine numbers at most 180
 abbrev pub longest : ℕ
-longest = 231
+longest = 265

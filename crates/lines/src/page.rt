@@ -19,8 +19,8 @@ use crate::words::word;
 fn has_room(length: usize, at: usize) -> bool
     ensures { λ r. ⌜ r ≡ leb (at + longest) length ⌝ }
 {
-    if 231 <= length {
-        at <= length - 231
+    if 265 <= length {
+        at <= length - 265
     } else {
         false
     }
@@ -28,7 +28,7 @@ fn has_room(length: usize, at: usize) -> bool
 
 // A word and the number behind it, in decimal.
 fn count(i: usize, n: u64, page: &mut [u8], at: usize) -> usize
-    requires { ⌜ i < 18 ⌝ }
+    requires { ⌜ i < 19 ⌝ }
     requires { ⌜ at + length (wordAt i) + 20 ≤ length (now page) ⌝ }
     ensures { λ r. ⌜ AppendsWithin (length (wordAt i) + 20) (wordAt i ++ decimal n) (now (page .entry)) at r (now (page .exit)) ⌝ }
 {
@@ -61,14 +61,14 @@ pub fn fault(number: u8, page: &mut [u8], at: usize) -> usize
     }
 }
 
-// The last line of a tape without a fault: the eight counters, each behind its label.
-pub fn counts(counters: [u64; 8], page: &mut [u8], at: usize) -> usize
+// The last line of a tape without a fault: the nine counters, each behind its label.
+pub fn counts(counters: [u64; 9], page: &mut [u8], at: usize) -> usize
     ensures { λ r. ⌜ WritesLine (countersText counters) (now (page .entry)) at r (now (page .exit)) ⌝ }
 {
     if has_room(page.len(), at) {
         let mut end = at;
         let mut i = 0;
-        while i < 8 {
+        while i < 9 {
             end = count(LABELS + i, counters[i], page, end);
             i += 1;
         }

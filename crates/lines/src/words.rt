@@ -6,10 +6,10 @@ ghost use lib.ListN.{length};
 ghost use Rattle.lines.specs.Words.{wordAt, place as placeOf, Appends};
 use crate::Line;
 
-const WORDS: [u8; 140] =
-    *b"ok\npass\ndiscard\ntick\nreset\nlatent reset\nlatent ok\nlatent error\nfault \npassed= discarded= order= rogue= lost= tagless= resets= latent-resets=";
+const WORDS: [u8; 154] =
+    *b"ok\npass\ndiscard\ntick\nreset\nlatent reset\nlatent ok\nlatent error\nfault \npassed= discarded= order= rogue= lost= tagless= resets= latent-resets= before-first=";
 
-const ENDS: [u8; 19] = [
+const ENDS: [u8; 20] = [
     0,
     3,
     8,
@@ -29,6 +29,7 @@ const ENDS: [u8; 19] = [
     117,
     125,
     140,
+    154,
 ];
 
 pub const FAULT: usize = 8;
@@ -62,7 +63,7 @@ pub fn append(part: &[u8], page: &mut [u8], at: usize) -> usize
 }
 
 pub fn word(i: usize, page: &mut [u8], at: usize) -> usize
-    requires { ⌜ i < 18 ⌝ }
+    requires { ⌜ i < 19 ⌝ }
     requires { ⌜ at + length (wordAt i) ≤ length (now page) ⌝ }
     ensures { λ r. ⌜ Appends (wordAt i) (now (page .entry)) at r (now (page .exit)) ⌝ }
 {

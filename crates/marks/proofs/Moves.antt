@@ -1,16 +1,16 @@
 -- Mark by mark, what one move does, and what setting one mark does. Assumes nothing.
-use Prim.Native.Nat.{ℕ, suc, _*_, _%_, _^_, _<_}
-use native.Mathlib.Nat.{mod-lt, zero-div}
+use Prim.Native.Nat.{ℕ, suc, _*_, _%_, _^_, _≤_, _<_}
+use native.Mathlib.Nat.{mod-lt, zero-div, lt-of-lt-of-le}
 use native.Mathlib.Omega.{arith}
 use mathlib.Core.Path.{_≡_, refl, ap, _∙_}
 use mathlib.Core.Bool.{true, cond}
 use lib.Dec.{eqb}
-use lib.Pow.{pow-pos}
+use lib.Pow.{pow-pos, pow-mono}
 use borrow.Author.Tests.{lt-ltb, ltb-true, eqb-true, eqb-false}
 use Rattle.octets.proofs.Bools.{by-cases, either}
 use Rattle.marks.specs.declared.Marks.{Marks}
 use Rattle.marks.specs.Window.{most, number, mark, none, clearFrom, set, reach, moved}
-use Rattle.marks.proofs.Digits.{digit, digit-below-2, digit-set, set-below, digit-moved-zero, digit-moved-suc}
+use Rattle.marks.proofs.Digits.{digit, none-above, digit-below-2, digit-set, set-below, digit-moved-zero, digit-moved-suc}
 use Rattle.marks.proofs.Reach.{reach-low, number-cut}
 
 -- a mark is set or clear
@@ -26,6 +26,13 @@ none-clear k = ap (λ (n : ℕ). n % 2) (zero-div (2 ^ k))
 pub none-from : (h : ℕ) → clearFrom h none ≡ true
 unfolding clearFrom none
 none-from h = lt-ltb 0 (2 ^ h) (pow-pos h)
+
+-- a mark at h or above, where those are clear
+pub clear-mark : (h k : ℕ) (marks : Marks) → clearFrom h marks ≡ true → h ≤ k → mark k marks ≡ 0
+unfolding mark clearFrom
+clear-mark h k marks fits above =
+    let less = lt-of-lt-of-le (ltb-true (number marks) (2 ^ h) fits) (pow-mono above) in
+    ap (λ (n : ℕ). n % 2) (eqb-true _ 0 (none-above k (number marks) ∙ lt-ltb _ _ less))
 
 -- setting a mark
 module _ (k : ℕ) (marks : Marks) (there : k < most) where

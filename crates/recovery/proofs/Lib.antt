@@ -1,6 +1,7 @@
 pub mod RuleLaws
 pub mod TimerLaws
 pub mod SoundLaws
+pub mod FirstLaws
 pub mod SoundCalls
 pub mod SoundKept
 pub mod FreshSound

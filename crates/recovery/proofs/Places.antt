@@ -17,6 +17,7 @@ use Rattle.recovery.specs.Spans.{PlacesAccounted}
 use Start.{started}
 use Run.{Tracks, starts-tracks, numbered-tracks, tagless-tracks, tick-tracks, latent-tracks, range, verdict-there}
 use Rattle.rules.proofs.Places.Sum.{sum-closes}
+use Rattle.rules.proofs.Places.Parts.{lost-parted}
 -- to be read in this order: one packet at a sound state; ticks and latent resets, which leave the places alone; what the state keeps over a
 -- span; and where a span starts
 pub mod OnePacket
@@ -52,5 +53,7 @@ places-accounted start packets s rule span =
       next = verdict-there start rule _ _ s track;
       passed-grown = track .passed-grown;
       lost-grown = track .lost-grown;
+      before-grown = track .before-grown;
+      lost-parted = lost-parted (start .setup .history) (numbers packets) (omega arith) (omega arith);
       sum-closes = sum-closes (start .setup .history) (numbers packets) (omega arith) (omega arith);
     }

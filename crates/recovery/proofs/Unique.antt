@@ -5,6 +5,7 @@ use mathlib.Core.Bool.{Bool}
 use Rattle.octets.proofs.Unique.{one}
 use Rattle.setup.specs.declared.Setup.{Setup}
 use Rattle.marks.specs.declared.Marks.{Marks}
+use Rattle.rules.specs.declared.First.{First}
 use Rattle.counters.specs.declared.Counters.{Counters}
 use Rattle.recovery.specs.declared.Left.{Left}
 use Rattle.recovery.specs.declared.State.{State}
@@ -27,9 +28,10 @@ begins-one setup = one
 pub remain-one : (left : Left) {a b : ℕ} → Remain left a → Remain left b → a ≡ b
 remain-one left = one
 
-pub stores-one : (setup : Setup) (newest : ℕ) (marks : Marks) (takeAny : Bool) (left : ℕ) (counters : Counters) (base : ℕ) {a b : State}
-    → Stores setup newest marks takeAny left counters base a → Stores setup newest marks takeAny left counters base b → a ≡ b
-stores-one setup newest marks takeAny left counters base = one
+pub stores-one : (setup : Setup) (newest : ℕ) (marks : Marks) (first : First) (takeAny : Bool) (left : ℕ) (counters : Counters) (base : ℕ)
+    {a b : State} → Stores setup newest marks first takeAny left counters base a
+    → Stores setup newest marks first takeAny left counters base b → a ≡ b
+stores-one setup newest marks first takeAny left counters base = one
 
 module _ (s : State) where
   pub tells-sound-one : {a b : Bool} → TellsSound s a → TellsSound s b → a ≡ b

@@ -20,6 +20,7 @@ rebased s =
       setup = s .setup;
       newest = s .newest;
       marks = s .marks;
+      first = s .first;
       «take_any» = s .«take_any»;
       left = s .left;
       counters = latentCounted (s .counters);

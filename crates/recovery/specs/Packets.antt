@@ -6,6 +6,8 @@ use Rattle.setup.specs.Range.{isVector}
 use Rattle.rules.specs.declared.Effect.{Effect}
 use Rattle.rules.specs.NoNumber.{unnumbered}
 use Rattle.rules.specs.ByRule.{byRule}
+use Rattle.rules.specs.declared.Traced.{Traced}
+use Rattle.rules.specs.FirstPlace.{traced}
 use Rattle.counters.specs.Counting.{counted}
 use Rattle.recovery.specs.declared.State.{State}
 use Rattle.recovery.specs.declared.Packet.{Packet}
@@ -19,26 +21,37 @@ use Rattle.recovery.specs.Timer.{restarted}
 unfoldable pub numbered : State → ℕ → Effect
 numbered s number = byRule (isVector (s .setup)) (s .setup .history) (s .«take_any») (s .newest) (s .marks) number
 
--- the verdict and the whole next state, of the state, its next take-any, how many packets had no number, and what the packet does
-unfoldable pub settled : State → Bool → ℕ → Effect → Heard
-settled s takeAny tagless effect =
+-- CR 7: what becomes of the first place with it, and the holes that the window leaves below it
+unfoldable pub tracing : State → ℕ → Traced
+tracing s number =
+    traced (isVector (s .setup)) (s .setup .history) (s .«take_any») (s .newest) (s .marks) (s .first) (numbered s number .newest)
+
+-- a packet without a number leaves the first place where it stands
+unfoldable pub staying : State → Traced
+staying s = record { first = s .first; holes = 0 }
+
+-- the verdict and the whole next state, of the state, its next take-any, how many packets had no number, what becomes of the first place,
+-- and what the packet does
+unfoldable pub settled : State → Bool → ℕ → Traced → Effect → Heard
+settled s takeAny tagless trace effect =
     record {
       verdict = cond (effect .passes) Pass Discard;
       state = record {
         setup = s .setup;
         newest = effect .newest;
         marks = effect .marks;
+        first = trace .first;
         «take_any» = takeAny;
         left = restarted (effect .passes) (s .setup) (s .left);
-        counters = counted (s .counters) tagless effect;
+        counters = counted (s .counters) tagless (trace .holes) effect;
         base = s .base;
       };
     }
 
 -- a packet at a sound state; one with a number leaves take-any off
 unfoldable pub heard : State → Packet → Heard
-heard s (Numbered number) = settled s false 0 (numbered s number)
-heard s Tagless = settled s (s .«take_any») 1 (unnumbered (s .setup .taken) (s .newest) (s .marks))
+heard s (Numbered number) = settled s false 0 (tracing s number) (numbered s number)
+heard s Tagless = settled s (s .«take_any») 1 (staying s) (unnumbered (s .setup .taken) (s .newest) (s .marks))
 
 -- the call `packet`: "state not sound" is 14, and then "state and buffers keep their values"
 unfoldable pub packetOf : State → Packet → Heard

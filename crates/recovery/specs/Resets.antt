@@ -6,6 +6,7 @@ use lib.Dec.{eqb}
 use Rattle.setup.specs.declared.Setup.{Setup}
 use Rattle.setup.specs.Range.{checked}
 use Rattle.marks.specs.Window.{none}
+use Rattle.rules.specs.FirstPlace.{nowhere}
 use Rattle.counters.specs.declared.Counters.{Counters}
 use Rattle.counters.specs.Counting.{noCounts, resetCounted}
 use Rattle.recovery.specs.declared.State.{State}
@@ -15,13 +16,14 @@ use Rattle.recovery.specs.declared.Changed.{Changed}
 use Rattle.recovery.specs.declared.Change.the-variants as change
 use Rattle.recovery.specs.Soundness.{sound}
 
--- "newest 65,535, marks clear, take-any, ticks 0"; the counters and the base are given
+-- "newest 65,535, marks clear, take-any, ticks 0", and no first place: "a reset starts that anew"; the counters and the base are given
 abbrev pub cleared : Setup → Counters → ℕ → State
 cleared setup counters base =
     record {
       setup = setup;
       newest = 65535;
       marks = none;
+      first = nowhere;
       «take_any» = true;
       left = record { 0 = 0 };
       counters = counters;

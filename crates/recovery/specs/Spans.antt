@@ -26,7 +26,7 @@ use Rattle.recovery.specs.Packets.{Hears}
 use Rattle.recovery.specs.Timer.{Times}
 use Rattle.recovery.specs.LatentErrors.{LatentResets, LatentTests}
 use Rattle.counters.specs.Growth.{Grown}
-use Rattle.rules.specs.Places.{passes, passed, lost, Closes}
+use Rattle.rules.specs.Places.{passes, passed, lost, beforeFirst, Parted, Closes}
 
 -- the state that a fresh start, a reset or a timeout hands back
 pub data Starts : State → Type 0 where
@@ -72,6 +72,10 @@ pub record Accounted (h : ℕ) (places : List ℕ) (start : State) (packets : Li
   -- "stored passed and lost grow by these counts modulo 2^64, passed also by packets taken without a number"
   pub passed-grown : Grown (start .counters .passed) (length places + taken (start .setup) packets) (s .counters .passed)
   pub lost-grown : Grown (start .counters .lost) (lost h places) (s .counters .lost)
+  -- CR 7: before-first grows by "those of them below the first packet's place"
+  pub before-grown : Grown (start .counters .«before_first») (beforeFirst h places) (s .counters .«before_first»)
+  -- "lost less before-first, over the span, counts only places above the first"
+  pub lost-parted : Parted h places
   -- "And the sum closes"
   pub sum-closes : Closes h places
 

@@ -24,6 +24,7 @@ withLeft left s =
       setup = s .setup;
       newest = s .newest;
       marks = s .marks;
+      first = s .first;
       «take_any» = s .«take_any»;
       left = record { 0 = left };
       counters = s .counters;

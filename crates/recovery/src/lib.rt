@@ -10,6 +10,7 @@ mod timer;
 
 use counters::Counters;
 use marks::Marks;
+use rules::First;
 use setup::Setup;
 
 // Ticks left, which this room alone can make: they begin as the full ticks of a setup and go down one by one, and those of a stored state
@@ -21,6 +22,8 @@ pub struct State {
     pub newest: u16,
     // mark 0 is the newest
     pub marks: Marks,
+    // where the first packet's place stands among them
+    pub first: First,
     pub take_any: bool,
     pub left: Left,
     pub counters: Counters,

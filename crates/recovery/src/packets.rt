@@ -11,6 +11,7 @@ use crate::State;
 use crate::Verdict;
 use crate::timer;
 use rules::Effect;
+use rules::Traced;
 
 fn verdict_of(passes: bool) -> Verdict
     ensures { λ r. ⌜ r ≡ cond passes Pass Discard ⌝ }
@@ -23,16 +24,18 @@ fn verdict_of(passes: bool) -> Verdict
 }
 
 impl State {
-    // The next state, of what the packet does. The ticks left are handed in: a look at the setup here makes a tape a sixth slower
-    // (docs/MEASURES.md).
-    fn settle(mut self, take_any: bool, tagless: u64, left: Left, e: Effect) -> Heard
+    // The next state, of what the packet does and what becomes of the first place. The ticks left are handed in: a look at the setup here
+    // makes a tape a sixth slower (docs/MEASURES.md).
+    fn settle(mut self, take_any: bool, tagless: u64, left: Left, t: Traced, e: Effect) -> Heard
         requires { ⌜ left ≡ restarted (e .passes) (self .setup) (self .left) ⌝ }
-        ensures { λ r. ⌜ r ≡ settled self «take_any» tagless e ⌝ }
+        ensures { λ r. ⌜ r ≡ settled self «take_any» tagless t e ⌝ }
     {
-        let counters = counters::count(self.counters, tagless, e);
+        let counters = counters::count(self.counters, tagless, t.holes, e);
         let marks = e.marks;
+        let first = t.first;
         self.newest = e.newest;
         self.marks = marks;
+        self.first = first;
         self.take_any = take_any;
         self.left = left;
         self.counters = counters;
@@ -63,12 +66,23 @@ impl State {
                     number,
                 );
                 let left = timer::left_after(e, self.setup, self.left);
-                return self.settle(false, 0, left, e);
+                let t = rules::trace(
+                    self.setup.rule == 0,
+                    self.setup.history,
+                    self.take_any,
+                    self.newest,
+                    self.marks,
+                    self.first,
+                    e.newest,
+                );
+                return self.settle(false, 0, left, t, e);
             }
             Packet::Tagless => {
                 let e = rules::hear_no_number(self.setup.taken, self.newest, self.marks);
                 let left = timer::left_after(e, self.setup, self.left);
-                return self.settle(self.take_any, 1, left, e);
+                let first = self.first;
+                let t = Traced { first, holes: 0 };
+                return self.settle(self.take_any, 1, left, t, e);
             }
         }
     }

@@ -7,6 +7,7 @@ use crate::Changed;
 use crate::Left;
 use crate::State;
 use counters::Counters;
+use rules::First;
 use setup::Setup;
 
 // What fresh and reset have in common.
@@ -15,10 +16,12 @@ fn clear(setup: Setup, counters: Counters, base: u64) -> State
 {
     let left = Left(0);
     let marks = marks::none();
+    let first = First(0);
     State {
         setup,
         newest: 65535,
         marks,
+        first,
         take_any: true,
         left,
         counters,

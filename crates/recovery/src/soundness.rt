@@ -2,11 +2,22 @@
 ghost use mathlib.Core.Path.{_≡_};
 ghost use mathlib.Core.Bool.{cond, not, _&&_, _||_};
 ghost use lib.Dec.{leb, eqb};
-ghost use Rattle.recovery.specs.Soundness.{TellsSound};
+ghost use Rattle.recovery.specs.Soundness.{firstMarked, TellsSound};
 use crate::State;
+use marks::Marks;
+use rules::First;
 
-// The tests of a sound state, of its parts: `above` is that the marks at H and above are clear, `bare` that all are, and `first` that mark
-// 0 is set.
+// Whether the mark of a first place is set, where there is one: under take-any, under match and at H and above the other tests leave none.
+// It is asked without a branch, behind which the compiler would make the tests of a sound state twice (docs/MEASURES.md).
+fn first_marked(marks: Marks, first: First) -> bool
+    ensures { λ r. ⌜ r ≡ firstMarked marks first ⌝ }
+{
+    let n = first.0 as u32;
+    marks::is_set(marks, (n + 65535) % 65536) | (n == 0)
+}
+
+// The other tests of a sound state, of its parts: `above` is that the marks at H and above are clear, `bare` that all are, and `first` that
+// mark 0 is set.
 fn parts_agree(
     refusal: u8,
     rule: u8,
@@ -37,6 +48,9 @@ impl State {
     pub fn is_sound(self) -> bool
         ensures { λ r. ⌜ TellsSound self r ⌝ }
     {
+        if !first_marked(self.marks, self.first) {
+            return false;
+        }
         let full = self.setup.full();
         let refusal = self.setup.check();
         let above = marks::clear_from(self.marks, self.setup.history as u32);

@@ -4,6 +4,7 @@ use crate::Left;
 use crate::State;
 use counters::Counters;
 use marks::Marks;
+use rules::First;
 use setup::Setup;
 
 impl State {
@@ -12,18 +13,20 @@ impl State {
         setup: Setup,
         newest: u16,
         marks: Marks,
+        first: First,
         take_any: bool,
         left: u64,
         counters: Counters,
         base: u64,
     ) -> State
-        ensures { λ r. ⌜ Stores setup newest marks «take_any» left counters base r ⌝ }
+        ensures { λ r. ⌜ Stores setup newest marks first «take_any» left counters base r ⌝ }
     {
         let left = Left(left);
         State {
             setup,
             newest,
             marks,
+            first,
             take_any,
             left,
             counters,

@@ -13,7 +13,7 @@ ghost use Rattle.recovery_c.specs.Recoveries.{BeginsTo, StepsTo, TestsTo
 
 // A fresh state, written to the first words.
 #[no_mangle]
-pub extern "C" fn ahz_fresh_v2(
+pub extern "C" fn ahz_fresh_v3(
     rule: u8,
     taken: u8,
     usage: u8,

@@ -1,5 +1,5 @@
 -- A number that was heard just before does not pass: whatever became of it then, it is a repeat now, or a rogue again. Assumes nothing.
-use Prim.Native.Nat.{ℕ, _+_, _-_, _≤_}
+use Prim.Native.Nat.{ℕ, _≤_}
 use mathlib.Core.Path.{_≡_, refl}
 use mathlib.Core.Bool.{Bool, true, false}
 use lib.Dec.{leb, eqb}
@@ -10,17 +10,16 @@ use Rattle.marks.specs.declared.Marks.{Marks}
 use Rattle.marks.specs.Window.{most, mark, none, set, slid}
 use Rattle.marks.proofs.Meaning.{sets-mean}
 use Rattle.rules.specs.declared.Effect.{Effect}
-use Rattle.rules.specs.Difference.{Difference, ahead, behind, apart, difference}
+use Rattle.rules.specs.Difference.{Difference, ahead, behind, difference}
 use Rattle.rules.specs.TakeAny.{firstMarks, first}
 use Rattle.rules.specs.Vector.{late, onward, byDifference, vector}
 use Rattle.rules.specs.Matching.{match}
 use Rattle.rules.specs.ByRule.{byRule}
-use Rattle.rules.proofs.VectorLaws.{is-same, rogue-ahead, rogue-behind, comes-late}
+use Rattle.rules.proofs.VectorLaws.{is-same, apart-self, rogue-ahead, rogue-behind, comes-late}
 
 -- a number is behind itself by 0
 no-difference : (number : ℕ) → difference number number ≡ behind 0
-unfolding apart
-no-difference number = let turn : number + 65536 - number ≡ 65536 = omega arith in is-same number number 0 (rw turn) refl
+no-difference number = is-same number number 0 (apart-self number) refl
 
 -- by the rule, with the newest number and the marks that an effect leaves
 abbrev Discarded : Bool → ℕ → ℕ → Effect → Type 0

@@ -18,5 +18,8 @@ pub mod Shown
 -- a step of the vector rule obeys the places, and so does the first packet
 pub mod Step
 pub mod First
+-- the places below the first packet's: they are a part of those lost, and what is kept of the first place finds them
+pub mod Parts
+pub mod Before
 -- document 01's figures
 pub mod Example

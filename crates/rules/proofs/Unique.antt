@@ -10,6 +10,9 @@ use Rattle.rules.specs.TakeAny.{HearsFirst}
 use Rattle.rules.specs.Vector.{HearsVector}
 use Rattle.rules.specs.Matching.{HearsMatch}
 use Rattle.rules.specs.ByRule.{HearsNumbered}
+use Rattle.rules.specs.declared.First.{First}
+use Rattle.rules.specs.declared.Traced.{Traced}
+use Rattle.rules.specs.FirstPlace.{TracesFirst}
 
 module _ {a b : Effect} where
   pub hears-no-number-one : (taken newest : ℕ) (marks : Marks) → HearsNoNumber taken newest marks a
@@ -30,3 +33,7 @@ module _ {a b : Effect} where
   pub hears-numbered-one : (rule h : ℕ) (takeAny : Bool) (newest : ℕ) (marks : Marks) (number : ℕ)
       → HearsNumbered rule h takeAny newest marks number a → HearsNumbered rule h takeAny newest marks number b → a ≡ b
   hears-numbered-one rule h takeAny newest marks number = one
+
+pub traces-first-one : (vector : Bool) (h : ℕ) (takeAny : Bool) (newest : ℕ) (marks : Marks) (first : First) (now : ℕ) {a b : Traced}
+    → TracesFirst vector h takeAny newest marks first now a → TracesFirst vector h takeAny newest marks first now b → a ≡ b
+traces-first-one vector h takeAny newest marks first now = one

@@ -1,9 +1,9 @@
 -- The vector rule by cases: which of its lines a packet falls under, from how far apart the numbers are. Assumes nothing.
-use Prim.Native.Nat.{ℕ, _-_, _<_, _≤_}
+use Prim.Native.Nat.{ℕ, _+_, _-_, _<_, _≤_}
 use mathlib.Core.Path.{_≡_, refl, ap, _∙_}
 use mathlib.Core.Bool.{cond}
 use lib.Dec.{eqb, ltb}
-use borrow.Author.Tests.{lt-ltb, le-ltb, le-leb, lt-leb, ne-eqb, eqb-true, ltb-false}
+use borrow.Author.Tests.{lt-ltb, le-ltb, le-leb, lt-leb, ne-eqb, eqb-true, eqb-false, ltb-false}
 use native.Mathlib.Omega.{arith}
 use Rattle.octets.proofs.Bools.{either}
 use Rattle.marks.specs.declared.Marks.{Marks}
@@ -26,6 +26,29 @@ module _ (newest number far : ℕ) (e : apart newest number ≡ far) where
   is-behind p =
       let z : far ≡ 0 → ⊥ = λ q. omega arith in
       ap signed e ∙ rw (ne-eqb _ _ z, le-ltb _ _ p)
+
+-- a number is 0 apart from itself
+pub apart-self : (number : ℕ) → apart number number ≡ 0
+unfolding apart
+apart-self number = let turn : number + 65536 - number ≡ 65536 = omega arith in rw turn
+
+-- and one that is ahead by k is k apart
+pub apart-ahead : (newest number k : ℕ) → difference newest number ≡ ahead k → (apart newest number ≡ k) × (1 ≤ k)
+unfolding difference signed
+apart-ahead newest number k =
+    either leads (eqb far 0) (λ _ e. absurd (omega (arith, behind-ahead e)))
+    (λ some. either leads (ltb far 32768)
+    (λ _ e. let same : far ≡ k = cc in (same, omega (arith, eqb-false far 0 some)))
+    (λ _ e. absurd (omega (arith, behind-ahead e))))
+  where
+    far : ℕ
+    far = apart newest number
+
+    leads : Difference → Type 0
+    leads d = d ≡ ahead k → (far ≡ k) × (1 ≤ k)
+
+    behind-ahead : {j : ℕ} → behind j ≡ ahead k → _≡_ {A = ℕ} 0 1
+    behind-ahead e = cc
 
 -- the rule from d
 module _ (h newest : ℕ) (marks : Marks) (number k : ℕ) where

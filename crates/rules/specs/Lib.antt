@@ -5,4 +5,5 @@ pub mod TakeAny
 pub mod Vector
 pub mod Matching
 pub mod ByRule
+pub mod FirstPlace
 pub mod Places

@@ -1,10 +1,10 @@
 -- Places: the third demand of the layer, which document 01 cites as demand 3. Which numbered packets pass, and which places are lost or
 -- still open: "All this is counted from the list of packets alone". A place never wraps: it is a natural number, and bears the sequence
 -- number place % 65,536. A late packet may stand below the first one, also where that has the number 0, so places are counted from one full
--- turn below zero: the first packet's place is 65,536 + its number. Every list here is latest first. `NearestAlone`, `LeftForGood` and
--- `SumCloses` are claims about these definitions, which proofs/Places proves; what is claimed of the calls is said in `specs/Spans` of the
--- room `recovery`. Assumes nothing.
-use Prim.Native.Nat.{ℕ, zero, suc, _+_, _-_, _%_, _≤_, _<_, max}
+-- turn below zero: the first packet's place is 65,536 + its number. Every list here is latest first. `NearestAlone`, `LeftForGood`,
+-- `LostParted` and `SumCloses` are claims about these definitions, which proofs/Places proves; what is claimed of the calls is said in
+-- `specs/Spans` of the room `recovery`. Assumes nothing.
+use Prim.Native.Nat.{ℕ, zero, suc, _+_, _-_, _%_, _≤_, _<_, min, max}
 use mathlib.Core.Path.{_≡_}
 use mathlib.Core.Bool.{Bool, true, false, cond, not, _&&_, _||_}
 use mathlib.Core.List.{List, [], _∷_}
@@ -89,6 +89,23 @@ abbrev pub LeftForGood : Type 0
 LeftForGood =
     (h p : ℕ) (ps : List ℕ) (number left : ℕ) → left + h ≤ newestPlace (p ∷ ps)
     → among left (after h (p ∷ ps) number) ≡ among left (p ∷ ps)
+
+-- CR 7, "for those of them below the first packet's place": of the places that the window has left, the first h - 1 lie below the first
+-- packet's; those of them that have not passed
+unfoldable pub beforeFirst : ℕ → List ℕ → ℕ
+beforeFirst h ps = unpassed ps (firstPlace ps + 1 - h) (min (movedOn ps) (h - 1))
+
+-- and of the places above the first packet's that the window has left, those that have not passed
+unfoldable pub lostAbove : ℕ → List ℕ → ℕ
+lostAbove h ps = unpassed ps (firstPlace ps + 1) (movedOn ps - h)
+
+-- "lost less before-first, over the span, counts only places above the first"
+abbrev pub Parted : ℕ → List ℕ → Type 0
+Parted h ps = lost h ps ≡ beforeFirst h ps + lostAbove h ps
+
+-- so for every list of packet numbers
+abbrev pub LostParted : Type 0
+LostParted = (h : ℕ) (numbers : List ℕ) → 1 ≤ h → h ≤ 65536 → Parted h (passed h numbers)
 
 -- "those still open": the places in the window that have not passed
 unfoldable pub stillOpen : ℕ → List ℕ → ℕ

@@ -5,6 +5,7 @@
 mod by_rule;
 mod difference;
 mod effects;
+mod first_place;
 mod matching;
 mod no_number;
 mod take_any;
@@ -22,7 +23,18 @@ pub struct Effect {
     pub lost: u64,
 }
 
+// Which of the window's places is the first packet's, counted from the newest, which is the 1st; 0 where it is none of them. The number is
+// public, since any state at all may be handed in.
+pub struct First(pub u16);
+
+// The first packet's place after a packet, and how many places below it left the window unpassed.
+pub struct Traced {
+    pub first: First,
+    pub holes: u64,
+}
+
 pub use by_rule::hear_numbered;
+pub use first_place::trace;
 pub use matching::hear_match;
 pub use no_number::hear_no_number;
 pub use take_any::hear_first;

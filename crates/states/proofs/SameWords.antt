@@ -20,7 +20,8 @@ unfolding held
 holds w e =
     let p = both _ _ e in
     let «take_any» = both _ _ (p .1) in
-    let newest = both _ _ («take_any» .0) in
+    let first = both _ _ («take_any» .0) in
+    let newest = both _ _ (first .0) in
     let difference = both _ _ (newest .0) in
     let paths = both _ _ (difference .0) in
     let rate = both _ _ (paths .0) in
@@ -41,6 +42,7 @@ holds w e =
       paths = ltb-true _ _ (paths .1);
       difference = ltb-true _ _ (difference .1);
       newest = ltb-true _ _ (newest .1);
+      first = ltb-true _ _ (first .1);
       «take_any» = ltb-true _ _ («take_any» .1);
     }
 
@@ -72,4 +74,4 @@ one-or-none (suc (suc n)) l = absurd (omega (arith, l))
 pub same-words : (w : List ℕ) → held w ≡ true → putIn (wordsOf (stateOf w)) w ≡ w
 unfolding wordsOf stateOf listed
 same-words w e =
-    let h = holds w e in rw (one-or-none (word 11 w) (h .«take_any»), sym (h .marked)) (listed-first 0 22 w (h .enough))
+    let h = holds w e in rw (one-or-none (word 12 w) (h .«take_any»), sym (h .marked)) (listed-first 0 24 w (h .enough))

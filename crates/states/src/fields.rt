@@ -3,6 +3,7 @@ use crate::Held;
 use counters::Counters;
 use marks::Marks;
 use recovery::State;
+use rules::First;
 use setup::Milliseconds;
 use setup::Setup;
 ghost use mathlib.Core.Path.{_≡_};
@@ -15,10 +16,10 @@ ghost use Rattle.states.specs.Fields.{Holds, fieldsFit, held, setupIn, c
 ghost use Rattle.states.specs.Fields.{ReadsState, ReadsSound, Keeps};
 
 fn fields_fit(state: &[u64]) -> bool
-    requires { ⌜ 22 ≤ length (now state) ⌝ }
+    requires { ⌜ 24 ≤ length (now state) ⌝ }
     ensures { λ r. ⌜ r ≡ fieldsFit (now (state .entry)) ⌝ }
 {
-    (state[0] == 1095260674)
+    (state[0] == 1095260675)
         & (state[1] < 256)
         & (state[2] < 256)
         & (state[3] < 256)
@@ -28,13 +29,14 @@ fn fields_fit(state: &[u64]) -> bool
         & (state[7] < 256)
         & (state[8] < 4294967296)
         & (state[9] < 65536)
-        & (state[11] < 2)
+        & (state[11] < 65536)
+        & (state[12] < 2)
 }
 
 fn hold(state: &[u64]) -> bool
     ensures { λ r. ⌜ r ≡ held (now (state .entry)) ⌝ }
 {
-    if 22 <= state.len() {
+    if 24 <= state.len() {
         fields_fit(state)
     } else {
         false
@@ -59,18 +61,19 @@ fn setup_in(state: &[u64]) -> Setup
 }
 
 fn counters_in(state: &[u64]) -> Counters
-    requires { ⌜ 22 ≤ length (now state) ⌝ }
+    requires { ⌜ 24 ≤ length (now state) ⌝ }
     ensures { λ r. ⌜ r ≡ countersIn (now (state .entry)) ⌝ }
 {
     Counters {
-        passed: state[13],
-        discarded: state[14],
-        order: state[15],
-        rogue: state[16],
-        lost: state[17],
-        tagless: state[18],
-        resets: state[19],
-        latent_resets: state[20],
+        passed: state[14],
+        discarded: state[15],
+        order: state[16],
+        rogue: state[17],
+        lost: state[18],
+        tagless: state[19],
+        resets: state[20],
+        latent_resets: state[21],
+        before_first: state[22],
     }
 }
 
@@ -81,15 +84,16 @@ fn unpack(state: &[u64]) -> State
     let setup = setup_in(state);
     let newest = state[9] as u16;
     let marks = Marks(state[10]);
-    let take_any = state[11] == 1;
-    let left = state[12];
-    let base = state[21];
+    let first = First(state[11] as u16);
+    let take_any = state[12] == 1;
+    let left = state[13];
+    let base = state[23];
     let counters = counters_in(state);
-    State::stored(setup, newest, marks, take_any, left, counters, base)
+    State::stored(setup, newest, marks, first, take_any, left, counters, base)
 }
 
 fn setup_fits(state: &[u64]) -> bool
-    requires { ⌜ 22 ≤ length (now state) ⌝ }
+    requires { ⌜ 24 ≤ length (now state) ⌝ }
     ensures { λ r. ⌜ r ≡ eqb (checked (setupIn (now (state .entry)))) 0 ⌝ }
 {
     setup::check_numbers(
@@ -117,14 +121,18 @@ fn read(state: &[u64]) -> Held
 
 // The sound state that the words hold. The setup is checked first, on the words as they are, with one test for each number that has a
 // range: whether its field can hold the word and whether the value is in range then say nothing new, and the compiler leaves these tests
-// out. The use is asked by itself before: of three flags in one test the compiler would ask two again (docs/MEASURES.md).
+// out. The use is asked by itself before: of three flags in one test the compiler would ask two again. So is whether the first place stands
+// in a window at all, of which none has more than 64 places (docs/MEASURES.md).
 pub fn read_sound(state: &[u64]) -> Held
     ensures { λ r. ⌜ ReadsSound (now (state .entry)) r ⌝ }
 {
-    if state.len() < 22 {
+    if state.len() < 24 {
         return Held::Nothing;
     }
     if 1 < state[3] {
+        return Held::Nothing;
+    }
+    if 64 < state[11] {
         return Held::Nothing;
     }
     if !setup_fits(state) {
@@ -148,7 +156,7 @@ fn flag(set: bool) -> u64
     if set { 1 } else { 0 }
 }
 
-fn pack(s: State) -> [u64; 22]
+fn pack(s: State) -> [u64; 24]
     ensures { λ r. ⌜ r ≡ wordsOf s ⌝ }
 {
     let setup = s.setup;
@@ -165,8 +173,10 @@ fn pack(s: State) -> [u64; 22]
     let paths = setup.paths as u64;
     let difference = setup.difference as u64;
     let newest = s.newest as u64;
+    let place = s.first;
+    let first = place.0 as u64;
     [
-        1095260674,
+        1095260675,
         rule,
         taken,
         usage,
@@ -177,6 +187,7 @@ fn pack(s: State) -> [u64; 22]
         difference,
         newest,
         marks.0,
+        first,
         flag(s.take_any),
         left.count(),
         counters.passed,
@@ -187,6 +198,7 @@ fn pack(s: State) -> [u64; 22]
         counters.tagless,
         counters.resets,
         counters.latent_resets,
+        counters.before_first,
         s.base,
     ]
 }

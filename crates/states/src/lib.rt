@@ -1,4 +1,4 @@
-// A recovery state in lent words of 64 bits: a format and one for each field, read from the first twenty-two of them and put into these.
+// A recovery state in lent words of 64 bits: a format and one for each field, read from the first twenty-four of them and put into these.
 // Any words at all may be lent.
 mod fields;
 

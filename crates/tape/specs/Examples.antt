@@ -29,7 +29,12 @@ cases =
     -- packets 10 10 12 11 20, latent test
     record {
       tape = setup ++ (1 ∷ 0 ∷ 10 ∷ 1 ∷ 0 ∷ 10 ∷ 1 ∷ 0 ∷ 12 ∷ 1 ∷ 0 ∷ 11 ∷ 1 ∷ 0 ∷ 20 ∷ 6 ∷ []);
-      lines = "ok\npass\ndiscard\npass\npass\ndiscard\nlatent ok\npassed=3 discarded=2 order=2 rogue=1 lost=2 tagless=0 resets=0 latent-resets=0\n";
+      lines = "ok\npass\ndiscard\npass\npass\ndiscard\nlatent ok\npassed=3 discarded=2 order=2 rogue=1 lost=2 tagless=0 resets=0 latent-resets=0 before-first=2\n";
+    }
+    -- packets 10 12 15: with 12 the window leaves 7 and 8, and with 15 it leaves 9, the first packet's own place and 11
+    ∷ record {
+      tape = setup ++ (1 ∷ 0 ∷ 10 ∷ 1 ∷ 0 ∷ 12 ∷ 1 ∷ 0 ∷ 15 ∷ []);
+      lines = "ok\npass\npass\npass\npassed=3 discarded=0 order=2 rogue=0 lost=4 tagless=0 resets=0 latent-resets=0 before-first=3\n";
     }
     -- no setup at all; a packet before the setup; a setup twice; a kind that there is none of; a packet cut
     ∷ record { tape = []; lines = "fault 25\n" }
@@ -43,11 +48,11 @@ cases =
     -- "our timer ran out under it, letting the repeat through"; "In individual use a discarded packet also restarts the timer"
     ∷ record {
       tape = setupFor 0 20 ++ stuck;
-      lines = "ok\npass\ntick\ndiscard\nreset\npass\npassed=2 discarded=1 order=0 rogue=0 lost=0 tagless=0 resets=1 latent-resets=0\n";
+      lines = "ok\npass\ntick\ndiscard\nreset\npass\npassed=2 discarded=1 order=0 rogue=0 lost=0 tagless=0 resets=1 latent-resets=0 before-first=0\n";
     }
     ∷ record {
       tape = setupFor 1 20 ++ stuck;
-      lines = "ok\npass\ntick\ndiscard\ntick\ndiscard\npassed=1 discarded=2 order=0 rogue=0 lost=0 tagless=0 resets=0 latent-resets=0\n";
+      lines = "ok\npass\ntick\ndiscard\ntick\ndiscard\npassed=1 discarded=2 order=0 rogue=0 lost=0 tagless=0 resets=0 latent-resets=0 before-first=0\n";
     }
     -- "0 sequence, 1 individual, else 27"
     ∷ record { tape = setupFor 2 100; lines = "fault 27\n" }

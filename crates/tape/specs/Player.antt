@@ -19,7 +19,8 @@ use Rattle.turns.specs.declared.Outcome.{Outcome}
 use Rattle.turns.specs.declared.Outcome.the-variants.{Next, Fault, End}
 use Rattle.turns.specs.Turn.{outcomeAt}
 
--- "eight 64-bit counters (passed, discarded, order, rogue, lost, tagless, resets, latent-resets)", in the order of the last line
+-- "eight 64-bit counters (passed, discarded, order, rogue, lost, tagless, resets, latent-resets)", in the order of the last line, and
+-- CR 7's "ninth counter, before-first"
 unfoldable pub figures : Counters → List ℕ
 figures k =
     k .passed
@@ -30,6 +31,7 @@ figures k =
     ∷ k .tagless
     ∷ k .resets
     ∷ k .«latent_resets»
+    ∷ k .«before_first»
     ∷ []
 
 -- an event's line, and then what follows from the next state; a fault, and the counters, end the output
@@ -63,7 +65,7 @@ outputOf tape = unlessRefused (verdict (tapeChecks tape)) (played tape)
 
 -- how long is always enough: 13 octets for each event, and the last line
 abbrev pub enough : ℕ
-enough = 53479
+enough = 53513
 
 -- what the contracts within this crate cite: the first n octets of the page are the text
 pub record PageHolds (text : List ℕ) (n : ℕ) (page : List ℕ) : Type 0 where

@@ -9,7 +9,7 @@ use turns::Bench;
 use turns::Outcome;
 
 // The counters in the order of the last line.
-fn figures(k: Counters) -> [u64; 8]
+fn figures(k: Counters) -> [u64; 9]
     ensures { λ r. ⌜ r ≡ figuresOf k ⌝ }
 {
     [
@@ -21,6 +21,7 @@ fn figures(k: Counters) -> [u64; 8]
         k.tagless,
         k.resets,
         k.latent_resets,
+        k.before_first,
     ]
 }
 
@@ -58,10 +59,10 @@ fn output(tape: &[u8], page: &mut [u8]) -> usize
     }
 }
 
-fn blank() -> [u8; 53479]
+fn blank() -> [u8; 53513]
     ensures { λ r. ⌜ enough ≡ length r ⌝ }
 {
-    [0; 53479]
+    [0; 53513]
 }
 
 // Runs the tape and writes its output to the start of `out`.

@@ -1,4 +1,4 @@
--- Of a tape and a buffer, two answers that the promise of `ahz_tape_v2` allows are equal, and so is all that was lent to it. Assumes
+-- Of a tape and a buffer, two answers that the promise of `ahz_tape_v3` allows are equal, and so is all that was lent to it. Assumes
 -- nothing.
 use Prim.Native.Nat.{ℕ}
 use mathlib.Core.Path.{_≡_}

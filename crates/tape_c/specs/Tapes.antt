@@ -7,7 +7,7 @@ use lib.ListN.{length}
 use Rattle.octets.specs.Copy.{fits, putIn}
 use Rattle.tape.specs.Player.{outputOf}
 
--- the promise of `ahz_tape_v2`: the output at the start of the buffer and its length beside it; "output shorter than result" is 8, and then
+-- the promise of `ahz_tape_v3`: the output at the start of the buffer and its length beside it; "output shorter than result" is 8, and then
 -- "state and buffers keep their values"
 pub record RunsTo (tape out : List ℕ) (before r : ℕ) (later : List ℕ) (after : ℕ) : Type 0 where
   pub answer : r ≡ cond (fits (outputOf tape) out) 0 8

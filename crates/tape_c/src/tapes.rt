@@ -4,7 +4,7 @@ ghost use Rattle.tape_c.specs.Tapes.{RunsTo};
 
 // The output of a tape, written to `out`, and its length. AHZ_TAPE_OUTPUT octets are always enough.
 #[no_mangle]
-pub extern "C" fn ahz_tape_v2(tape: &[u8], out: &mut [u8], length: &mut usize) -> u8
+pub extern "C" fn ahz_tape_v3(tape: &[u8], out: &mut [u8], length: &mut usize) -> u8
     ensures { λ r. ⌜ RunsTo (now (tape .entry)) (now (out .entry)) (now (length .entry)) r (now (out .exit)) (now (length .exit)) ⌝ }
 {
     match tape::run(tape, out) {

@@ -77,7 +77,7 @@ extern "C" {
     /// Writes a fresh state of that setup to the first [`AHZ_S_WORDS`](crate::AHZ_S_WORDS) words of
     /// `state`; later words stay. Refuses as [`ahz_check_setup_v2`]; then 8 where there are fewer
     /// words.
-    pub fn ahz_fresh_v2(
+    pub fn ahz_fresh_v3(
         rule: u8,
         taken: u8,
         usage: u8,
@@ -136,7 +136,7 @@ extern "C" {
     /// Runs a bench tape and writes its lines to `out`, and how many octets they are to `length`;
     /// later octets stay. It takes [`AHZ_TAPE_STACK`](crate::AHZ_TAPE_STACK) octets of stack. Refuses
     /// 8.
-    pub fn ahz_tape_v2(
+    pub fn ahz_tape_v3(
         tape: *const u8,
         tape_octets: usize,
         out: *mut u8,

@@ -1,7 +1,7 @@
 // ---- The version ----
 
 /// Goes up where a program written for an older header could go wrong.
-pub const AHZ_VERSION_MAJOR: u32 = 2;
+pub const AHZ_VERSION_MAJOR: u32 = 3;
 /// Goes up where something is only added.
 pub const AHZ_VERSION_MINOR: u32 = 0;
 /// The version that this package is written for; [`ahz_version`](crate::ahz_version) answers that of
@@ -10,7 +10,7 @@ pub const AHZ_VERSION: u32 = AHZ_VERSION_MAJOR * 65_536 + AHZ_VERSION_MINOR;
 
 // ---- Stack ----
 
-/// Octets of stack that are enough for [`ahz_tape_v2`](crate::ahz_tape_v2).
+/// Octets of stack that are enough for [`ahz_tape_v3`](crate::ahz_tape_v3).
 pub const AHZ_TAPE_STACK: usize = 54_784;
 /// Octets of stack that are enough for every other call.
 pub const AHZ_STACK: usize = 256;
@@ -205,7 +205,7 @@ pub const AHZ_PATHS_MOST: u8 = 8;
 // ---- The words of a state ----
 
 /// What [`AHZ_S_FORMAT`] holds: it changes whenever the words of a state or their meaning do.
-pub const AHZ_STATE_FORMAT: u64 = 0x4148_5A02;
+pub const AHZ_STATE_FORMAT: u64 = 0x4148_5A03;
 
 /// [`AHZ_STATE_FORMAT`]; a state of another format is refused by 14.
 pub const AHZ_S_FORMAT: usize = 0;
@@ -229,30 +229,35 @@ pub const AHZ_S_DIFFERENCE: usize = 8;
 pub const AHZ_S_NEWEST: usize = 9;
 /// Bit k is mark k; mark 0 is the newest.
 pub const AHZ_S_MARKS: usize = 10;
+/// Which of the window's places is the first packet's, counted from the newest as 1, so one more than the
+/// k of its mark; 0 where none of them is.
+pub const AHZ_S_FIRST: usize = 11;
 /// 1 where any number is taken next, else 0.
-pub const AHZ_S_TAKE_ANY: usize = 11;
+pub const AHZ_S_TAKE_ANY: usize = 12;
 /// Ticks left.
-pub const AHZ_S_LEFT: usize = 12;
-/// Packets that passed. The eight counters wrap.
-pub const AHZ_S_PASSED: usize = 13;
+pub const AHZ_S_LEFT: usize = 13;
+/// Packets that passed. The nine counters wrap.
+pub const AHZ_S_PASSED: usize = 14;
 /// Packets that were discarded.
-pub const AHZ_S_DISCARDED: usize = 14;
+pub const AHZ_S_DISCARDED: usize = 15;
 /// Packets that passed out of order.
-pub const AHZ_S_ORDER: usize = 15;
+pub const AHZ_S_ORDER: usize = 16;
 /// Packets discarded for a number too far from the newest.
-pub const AHZ_S_ROGUE: usize = 16;
+pub const AHZ_S_ROGUE: usize = 17;
 /// Places that the window left and that nothing passed at.
-pub const AHZ_S_LOST: usize = 17;
+pub const AHZ_S_LOST: usize = 18;
 /// Packets without a number.
-pub const AHZ_S_TAGLESS: usize = 18;
+pub const AHZ_S_TAGLESS: usize = 19;
 /// Resets, by call or by timeout.
-pub const AHZ_S_RESETS: usize = 19;
+pub const AHZ_S_RESETS: usize = 20;
 /// Latent resets.
-pub const AHZ_S_LATENT_RESETS: usize = 20;
+pub const AHZ_S_LATENT_RESETS: usize = 21;
+/// Those of [`AHZ_S_LOST`] that lie below the first packet's place.
+pub const AHZ_S_BEFORE_FIRST: usize = 22;
 /// The latent base, modulo 2^64.
-pub const AHZ_S_BASE: usize = 21;
+pub const AHZ_S_BASE: usize = 23;
 /// How many words a state has.
-pub const AHZ_S_WORDS: usize = 22;
+pub const AHZ_S_WORDS: usize = 24;
 
 // ---- Charge cards, by their first octet ----
 
@@ -292,4 +297,4 @@ pub const AHZ_EVENT_SETUP: u8 = 0x0F;
 pub const AHZ_TAPE_LONGEST: usize = 4_096;
 
 /// Octets that hold the output of every tape.
-pub const AHZ_TAPE_OUTPUT: usize = 53_479;
+pub const AHZ_TAPE_OUTPUT: usize = 53_513;

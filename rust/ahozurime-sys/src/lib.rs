@@ -4,8 +4,8 @@
 //! does; a test of this package holds the two against each other. The package `ahozurime` offers the
 //! same calls over slices, with types for units and answers, and is what a program should use.
 //!
-//! A call whose name ends in `_v2` took other arguments, or other octets, before version 2. So an
-//! archive of version 1 is not linked and then misread: it does not have these names.
+//! A call whose name ends in `_v2` or `_v3` took or wrote something else before that version. So an older
+//! archive is not linked and then misread: it does not have these names.
 //!
 //! # What every call asks for
 //!

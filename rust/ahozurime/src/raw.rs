@@ -90,7 +90,7 @@ pub fn fresh(setup: SetupNumbers, state: &mut [u64; sys::AHZ_S_WORDS]) -> u8 {
     let (at, words) = (state.as_mut_ptr(), state.len());
     // Safety: one slice with its length, borrowed alone.
     unsafe {
-        sys::ahz_fresh_v2(rule, taken, usage, history, ms, rate, paths, difference, at, words)
+        sys::ahz_fresh_v3(rule, taken, usage, history, ms, rate, paths, difference, at, words)
     }
 }
 
@@ -158,5 +158,5 @@ pub fn volts(payload: &[u8], gain: f64, offset: f64, volts: &mut f64) -> u8 {
 pub fn tape(tape: &[u8], out: &mut [u8], length: &mut usize) -> u8 {
     let (at, octets) = (out.as_mut_ptr(), out.len());
     // Safety: two slices, each with its length, and one number; the last two are borrowed alone.
-    unsafe { sys::ahz_tape_v2(tape.as_ptr(), tape.len(), at, octets, length) }
+    unsafe { sys::ahz_tape_v3(tape.as_ptr(), tape.len(), at, octets, length) }
 }

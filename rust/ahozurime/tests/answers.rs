@@ -1,7 +1,7 @@
 //! What this package adds to the layer: names, sentences and walks.
 
 use ahozurime::cards::{self, Calibration, Card, Reading};
-use ahozurime::recovery::{Generator, Rule, Setup, State, Usage, WORDS};
+use ahozurime::recovery::{Generator, Rule, Setup, State, Usage, Verdict, WORDS};
 use ahozurime::{frame, streams, tape, version, Version, STACK};
 use ahozurime::{Milliseconds, Millivolts, RawCode, Refusal, TicksPerSecond, Volts};
 use std::collections::BTreeMap;
@@ -78,9 +78,9 @@ fn a_refusal_is_shown_with_its_sentence() {
 }
 
 #[test]
-fn the_version_is_two_point_zero() {
-    assert_eq!(version(), Version { major: 2, minor: 0 });
-    assert_eq!(Version::OF_THIS_PACKAGE, Version { major: 2, minor: 0 });
+fn the_version_is_three_point_zero() {
+    assert_eq!(version(), Version { major: 3, minor: 0 });
+    assert_eq!(Version::OF_THIS_PACKAGE, Version { major: 3, minor: 0 });
 }
 
 #[test]
@@ -107,8 +107,8 @@ fn constants_are_those_of_the_paper() {
     assert_eq!(Setup::TIMEOUT, Milliseconds(1)..=Milliseconds(3_600_000));
     assert_eq!(Setup::RATE, TicksPerSecond(1)..=TicksPerSecond(10_000));
     assert_eq!(Setup::PATHS, 2..=8);
-    // The format, eight numbers of the setup, four of the window, eight counters and the base.
-    assert_eq!(WORDS, 22);
+    // The format, eight numbers of the setup, five of the window, nine counters and the base.
+    assert_eq!(WORDS, 24);
     assert_eq!((cards::KIND_END, cards::KIND_FLUSH_ORDER), (0x00, 0x10));
     assert_eq!((cards::KIND_RAW_CODE, cards::KIND_MILLIVOLTS), (0x11, 0x12));
     assert_eq!(cards::FLUSH_ORDER_OCTETS, 5);
@@ -117,7 +117,7 @@ fn constants_are_those_of_the_paper() {
     assert_eq!((tape::KIND_TICK, tape::KIND_RESET), (0x03, 0x04));
     assert_eq!((tape::KIND_LATENT_RESET, tape::KIND_LATENT_TEST), (0x05, 0x06));
     assert_eq!((tape::KIND_SETUP, tape::LONGEST), (0x0F, 4_096));
-    assert_eq!((STACK, tape::STACK, tape::OUTPUT), (256, 54_784, 53_479));
+    assert_eq!((STACK, tape::STACK, tape::OUTPUT), (256, 54_784, 53_513));
 }
 
 #[test]
@@ -182,12 +182,27 @@ fn a_state_keeps_its_setup() {
                 let setup = Setup { rule, take_tagless, usage, ..SETUP };
                 let state = State::fresh(&setup).unwrap();
                 assert_eq!((state.setup(), state.newest()), (setup, None));
+                assert_eq!(state.first_below(), None);
                 assert_eq!(State::from_words(*state.words()), Ok(state));
             }
         }
     }
     let bad = Setup { history: 65, ..SETUP };
     assert_eq!((bad.check(), State::fresh(&bad)), (Err(Refusal::HISTORY), Err(Refusal::HISTORY)));
+}
+
+#[test]
+fn a_state_tells_where_its_first_number_stands() {
+    for (rule, told) in
+        [(Rule::Vector, [Some(0), Some(3), Some(3), None]), (Rule::Match, [None; 4])]
+    {
+        let mut state = State::fresh(&Setup { rule, history: 4, ..SETUP }).unwrap();
+        let after = [10, 13, 12, 14].map(|number| {
+            assert_eq!(state.numbered(number), Ok(Verdict::Pass));
+            state.first_below()
+        });
+        assert_eq!(after, told);
+    }
 }
 
 #[test]

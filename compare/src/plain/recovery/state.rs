@@ -9,7 +9,7 @@ pub enum Verdict {
     Discard,
 }
 
-/// "Eight 64-bit counters that wrap."
+/// "Eight 64-bit counters that wrap", and "a ninth counter, before-first".
 #[derive(Clone, Copy, Debug, Default, PartialEq, Eq)]
 pub struct Counters {
     pub passed: u64,
@@ -20,6 +20,8 @@ pub struct Counters {
     pub tagless: u64,
     pub resets: u64,
     pub latent_resets: u64,
+    /// Those of `lost` "below the first packet's place".
+    pub before_first: u64,
 }
 
 /// A recovery state. Any values may be handed in; a step refuses 14 where they are not sound.
@@ -29,6 +31,8 @@ pub struct State {
     pub newest: u16,
     /// Mark i, for the place i below the newest, is bit i.
     pub marks: u64,
+    /// The mark of the first packet's place, while the window still has it.
+    pub first: Option<u16>,
     pub take_any: bool,
     pub ticks_left: Ticks,
     pub counters: Counters,
@@ -45,6 +49,7 @@ impl State {
             setup,
             newest: NEWEST_AT_RESET,
             marks: 0,
+            first: None,
             take_any: true,
             ticks_left: Ticks(0),
             counters: Counters::default(),
@@ -52,7 +57,8 @@ impl State {
         })
     }
 
-    /// The paragraph "Sound state". Under take-any the ticks may still run: a packet without a
+    /// The paragraph "Sound state", and "a first place kept as still in the window has its mark set,
+    /// and take-any and match keep none". Under take-any the ticks may still run: a packet without a
     /// number has set them, one that passed or, in individual use, one that was discarded.
     #[inline]
     pub fn is_sound(&self) -> bool {
@@ -60,12 +66,16 @@ impl State {
             return false;
         }
         if self.take_any {
-            self.newest == NEWEST_AT_RESET && self.marks == 0
+            self.newest == NEWEST_AT_RESET && self.marks == 0 && self.first.is_none()
         } else {
             self.ticks_left >= Ticks(1)
                 && match self.setup.rule {
-                    VECTOR => self.marks & 1 == 1 && self.marks & !self.window() == 0,
-                    _ => self.marks == 0,
+                    VECTOR => {
+                        self.marks & 1 == 1
+                            && self.marks & !self.window() == 0
+                            && self.first.is_none_or(|first| self.is_marked(first))
+                    }
+                    _ => self.marks == 0 && self.first.is_none(),
                 }
         }
     }
@@ -77,6 +87,11 @@ impl State {
         } else {
             Err(14)
         }
+    }
+
+    /// Whether the mark is set, which none beyond the 64 is.
+    fn is_marked(&self, mark: u16) -> bool {
+        self.marks.checked_shr(mark.into()).is_some_and(|from| from & 1 == 1)
     }
 
     /// The bits of marks 0 to H - 1, for an H in range.

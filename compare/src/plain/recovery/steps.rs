@@ -7,8 +7,12 @@
 use super::setup::{Ticks, INDIVIDUAL, MATCH, VECTOR};
 use super::state::{State, Verdict, NEWEST_AT_RESET};
 
+fn add(counter: &mut u64, more: u64) {
+    *counter = counter.wrapping_add(more);
+}
+
 fn count(counter: &mut u64) {
-    *counter = counter.wrapping_add(1);
+    add(counter, 1);
 }
 
 impl State {
@@ -23,7 +27,7 @@ impl State {
     pub(in crate::plain) fn hear(&mut self, number: Option<u16>) -> Verdict {
         let verdict = match number {
             None => self.tagless(),
-            Some(number) if self.take_any => self.first(number),
+            Some(number) if self.take_any => self.begin(number),
             Some(number) if self.setup.rule == MATCH => self.by_match(number),
             Some(number) => self.by_vector(number),
         };
@@ -48,9 +52,12 @@ impl State {
         }
     }
 
-    fn first(&mut self, number: u16) -> Verdict {
+    fn begin(&mut self, number: u16) -> Verdict {
         self.newest = number;
-        self.marks = u64::from(self.setup.rule == VECTOR);
+        if self.setup.rule == VECTOR {
+            self.marks = 1;
+            self.first = Some(0);
+        }
         self.take_any = false;
         Verdict::Pass
     }
@@ -66,6 +73,7 @@ impl State {
         Verdict::Pass
     }
 
+    #[inline]
     fn by_vector(&mut self, number: u16) -> Verdict {
         // The cast reads the difference modulo 65,536 as -32,768 to 32,767.
         let d = number.wrapping_sub(self.newest) as i16;
@@ -95,14 +103,35 @@ impl State {
         Verdict::Pass
     }
 
-    /// Moves the marks d places, 0 < d < H. The marks that leave are the highest d of the H: no
-    /// mark that enters on the way can leave, so the clear ones among them are what single moves
-    /// count.
+    /// Moves the marks d places, 0 < d < H, and the first place with them. The marks that leave are
+    /// the highest d of the H: no mark that enters on the way can leave, so the clear ones among them
+    /// are what single moves count.
+    #[inline]
     fn slide(&mut self, d: u16) {
-        let leaving = self.marks >> (self.setup.history - d);
-        let lost = u64::from(d) - u64::from(leaving.count_ones());
-        self.counters.lost = self.counters.lost.wrapping_add(lost);
+        let stays = self.setup.history - d;
+        let lost = self.clear_from(stays);
+        add(&mut self.counters.lost, lost);
+        match self.first {
+            // The first place stays, so all that leave are below it.
+            Some(first) if first < stays => {
+                add(&mut self.counters.before_first, lost);
+                self.first = Some(first + d);
+            }
+            // It leaves too, and is none of the clear ones: its mark is set.
+            Some(first) => {
+                let below = self.clear_from(first);
+                add(&mut self.counters.before_first, below);
+                self.first = None;
+            }
+            None => {}
+        }
         self.marks = (self.marks << d | 1) & self.window();
+    }
+
+    /// How many marks are clear from that one on, up to the last of the H.
+    #[inline]
+    fn clear_from(&self, mark: u16) -> u64 {
+        u64::from(self.setup.history - mark) - u64::from((self.marks >> mark).count_ones())
     }
 
     /// One tick, and whether it timed out.
@@ -136,6 +165,7 @@ impl State {
     pub(in crate::plain) fn clear(&mut self) {
         self.newest = NEWEST_AT_RESET;
         self.marks = 0;
+        self.first = None;
         self.take_any = true;
         self.ticks_left = Ticks(0);
         count(&mut self.counters.resets);

@@ -5,7 +5,7 @@ use mathlib.Core.List.{List, [], _∷_}
 use Prim.Native.Nat.{ℕ, _+_}
 use lib.ListN.{length}
 use Rattle.rules.specs.Places.{newestPlace, firstPlace, among, near, nearest, place, passes, after, passed}
-use Rattle.rules.specs.Places.{unpassed, window, movedOn, lost, stillOpen}
+use Rattle.rules.specs.Places.{unpassed, window, movedOn, lost, beforeFirst, lostAbove, stillOpen}
 
 -- H 4, packets 10 10 12 11 20, latest first: 10, 12 and 11 pass
 abbrev bench : List ℕ
@@ -23,6 +23,11 @@ bench-counts = (refl, refl, refl, refl, refl)
 bench-lost : (among (65536 + 7) bench ≡ false) × (among (65536 + 8) bench ≡ false) × (among (65536 + 9) bench ≡ false)
 unfolding among
 bench-lost = (refl, refl, refl)
+
+-- both lost places lie below the first packet's
+bench-before : (beforeFirst 4 bench ≡ 2) × (lostAbove 4 bench ≡ 0)
+unfolding beforeFirst lostAbove movedOn unpassed newestPlace firstPlace among
+bench-before = (refl, refl)
 
 -- H 64, first 0: 65,473 stands 63 places below the first and passes; 65,472 and 32,768 do not
 below-zero : (place (65536 ∷ []) 65473 ≡ 65473)

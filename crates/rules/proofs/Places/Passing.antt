@@ -8,9 +8,10 @@ use borrow.Author.Tests.{ltb-true, not-true}
 use Rattle.rules.specs.Places.{newestPlace, among, near, place, passes}
 use Rattle.octets.proofs.Bools.{both}
 
-near-below : (h p q : ℕ) → near h p q ≡ true → q < p + h
+near-both : (h p q : ℕ) → near h p q ≡ true → (p < q + h) × (q < p + h)
 unfolding near
-near-below h p q t = ltb-true q (p + h) (both (ltb p (q + h)) (ltb q (p + h)) t .1)
+near-both h p q t =
+    let t2 = both (ltb p (q + h)) (ltb q (p + h)) t in (ltb-true p (q + h) (t2 .0), ltb-true q (p + h) (t2 .1))
 
 module _ (h p : ℕ) (ps : List ℕ) (number : ℕ) where
   abbrev q : ℕ
@@ -37,7 +38,11 @@ module _ (h p : ℕ) (ps : List ℕ) (number : ℕ) where
 
   -- it lies above all that the window has left
   pub passes-above : passes h (p ∷ ps) number ≡ true → N < q + h
-  passes-above t = near-below h q N (parts t .0)
+  passes-above t = near-both h q N (parts t .0) .1
+
+  -- and less than h above the newest
+  pub passes-below : passes h (p ∷ ps) number ≡ true → q < N + h
+  passes-below t = near-both h q N (parts t .0) .0
 
   pub passes-new : passes h (p ∷ ps) number ≡ true → among q (p ∷ ps) ≡ false
   passes-new t = not-true (among q (p ∷ ps)) (parts t .1)

@@ -64,7 +64,7 @@ unfolding window movedOn lost stillOpen newestPlace firstPlace unpassed
 none-closes h = refl
 
 -- so for every list of packets
-abbrev Kept-or-none : ℕ → List ℕ → Type 0
+abbrev pub Kept-or-none : ℕ → List ℕ → Type 0
 Kept-or-none h [] = Unit
 Kept-or-none h (p ∷ ps) = Kept h (p ∷ ps)
 
@@ -77,7 +77,7 @@ unfolding after passes place
 next-kept h [] number hs room kept = kept-first h number hs
 next-kept h (p ∷ ps) number hs room kept = kept-is h (after h (p ∷ ps) number) (kept-after h p ps number room kept)
 
-all-kept : (h : ℕ) (numbers : List ℕ) → 1 ≤ h → h ≤ 65536 → Kept-or-none h (passed h numbers)
+pub all-kept : (h : ℕ) (numbers : List ℕ) → 1 ≤ h → h ≤ 65536 → Kept-or-none h (passed h numbers)
 unfolding passed
 all-kept h [] hs room = tt
 all-kept h (number ∷ older) hs room = next-kept h (passed h older) number hs room (all-kept h older hs room)

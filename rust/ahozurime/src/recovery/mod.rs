@@ -30,6 +30,13 @@
 //! assert_eq!((counters.order, counters.rogue, counters.lost), (2, 1, 2));
 //! assert_eq!(state.latent_test()?, Latent::Ok);
 //!
+//! // 13 does not come. At 17 the window has left it, as it has left 7, 8 and 9, which never were.
+//! for number in 14..=17 {
+//!     assert_eq!(state.numbered(number)?, Verdict::Pass);
+//! }
+//! let counters = state.counters();
+//! assert_eq!((counters.lost, counters.before_first), (4, 3));
+//!
 //! // Full ticks are 2: the second without a packet that passes times out.
 //! assert_eq!(state.tick()?, Ticked::Tick);
 //! assert_eq!(state.tick()?, Ticked::Reset);

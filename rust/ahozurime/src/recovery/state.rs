@@ -52,8 +52,9 @@ pub struct Counters {
     pub order: u64,
     /// Packets discarded for a number too far from the newest.
     pub rogue: u64,
-    /// Numbers that left the window and had not passed. The window reaches below the first number: up
-    /// to history length - 1 that never were count here, also in a run that lost nothing.
+    /// Numbers that left the window and had not passed, as the standard has it. The window reaches below
+    /// the first number: up to history length - 1 that never were count here too, after each reset, also
+    /// in a run that lost nothing.
     pub lost: u64,
     /// Packets without a number.
     pub tagless: u64,
@@ -61,6 +62,10 @@ pub struct Counters {
     pub resets: u64,
     /// Latent resets.
     pub latent_resets: u64,
+    /// [`lost`](Counters::lost) counts all places that the window left and that nothing passed at, and
+    /// this those of them that lie below the first packet's place. So `lost.wrapping_sub(before_first)`
+    /// is what was really missed.
+    pub before_first: u64,
 }
 
 /// The recovery state of one stream.
@@ -251,7 +256,7 @@ impl State {
         Setup::of(&self.words)
     }
 
-    /// The eight counters.
+    /// The nine counters.
     #[must_use]
     #[inline]
     pub fn counters(&self) -> Counters {
@@ -264,6 +269,7 @@ impl State {
             tagless: self.words[sys::AHZ_S_TAGLESS],
             resets: self.words[sys::AHZ_S_RESETS],
             latent_resets: self.words[sys::AHZ_S_LATENT_RESETS],
+            before_first: self.words[sys::AHZ_S_BEFORE_FIRST],
         }
     }
 
@@ -280,6 +286,15 @@ impl State {
     #[inline]
     pub fn marks(&self) -> u64 {
         self.words[sys::AHZ_S_MARKS]
+    }
+
+    /// How far below the newest number the first one since the last reset stands in the window: 0 where
+    /// it is the newest itself. None where the window has left it, where there was none yet, and under
+    /// [`Rule::Match`](super::Rule::Match).
+    #[must_use]
+    #[inline]
+    pub fn first_below(&self) -> Option<u16> {
+        self.words[sys::AHZ_S_FIRST].checked_sub(1).map(|below| below as u16)
     }
 
     /// Whether any number is taken next, as in a fresh state and after a reset. The timer may run
@@ -313,6 +328,7 @@ impl fmt::Debug for State {
             .field("setup", &self.setup())
             .field("newest", &self.newest())
             .field("marks", &format_args!("{:#b}", self.marks()))
+            .field("first_below", &self.first_below())
             .field("take_any", &self.take_any())
             .field("ticks_left", &self.ticks_left())
             .field("counters", &self.counters())

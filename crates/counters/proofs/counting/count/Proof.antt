@@ -14,7 +14,8 @@ cast-passed c = search needs
 returns : tie.Need-returns
 unfolding plus counted
 returns c =
-    let lost = c .before in
+    let before-first = c .before in
+    let lost = before-first .before in
     let rogue = lost .before in
     let order = rogue .before in
     let passed = order .before in
@@ -25,7 +26,8 @@ returns c =
       order .wrapping-add-u643 .ensures,
       rogue .wrapping-add-u644 .ensures,
       lost .wrapping-add-u645 .ensures,
-      c .wrapping-add-u646 .ensures,
+      before-first .wrapping-add-u646 .ensures,
+      c .wrapping-add-u647 .ensures,
       ← one-if,
       ← one-unless,
     )

@@ -20,14 +20,14 @@ Inv-loop page₀ at counters end₀ i₀ page end i = Counting counters page₀ 
 
 -- the measure: the counters still to come
 abbrev μ-loop : tie.MeasureT-loop
-μ-loop page₀ at counters end₀ i₀ page end i = 8 - i
+μ-loop page₀ at counters end₀ i₀ page end i = 9 - i
 
 abbrev start : tie.Then1 Inv-loop μ-loop → tie.Start Inv-loop μ-loop
 start c = c .before .before .before
 
 -- an array's length is that of its type
-eight : (c : tie.Then1 Inv-loop μ-loop) → length (start c .args .t1) ≡ 8
-eight c = omega (arith, start c .good .0)
+nine : (c : tie.Then1 Inv-loop μ-loop) → length (start c .args .t1) ≡ 9
+nine c = omega (arith, start c .good .0)
 
 -- what the test says
 room : (c : tie.Then1 Inv-loop μ-loop) → start c .args .at + longest ≤ length (start c .args .page .now)
@@ -54,7 +54,7 @@ count-requires c κs =
     let at-loop = turn .before in
     let inv = at-loop .loop .inv in
     let within = room (at-loop .before) in
-    (omega arith, omega (arith, next-room (eight (at-loop .before)) inv (turn .loop-test .taken), same-length (inv .appends), within))
+    (omega arith, omega (arith, next-room (nine (at-loop .before)) inv (turn .loop-test .taken), same-length (inv .appends), within))
 
 add-i : tie.Need-add-i Inv-loop μ-loop
 add-i c = search needs
@@ -67,7 +67,7 @@ loop-again c =
     let counted = c .before .before in
     let turn = counted .before .before in
     let at-loop = turn .before in
-    goes-on (eight (at-loop .before)) (at-loop .loop .inv) (turn .loop-test .taken) (counted .count .ensures)
+    goes-on (nine (at-loop .before)) (at-loop .loop .inv) (turn .loop-test .taken) (counted .count .ensures)
 
 word-requires : tie.Need-word-requires Inv-loop μ-loop
 unfolding words lineWords

@@ -14,7 +14,7 @@ array-read-append : tie.Need-array-read-append
 array-read-append c = search needs
 
 cast-append : tie.Need-cast-append
-cast-append c = let s = stands _ (c .before .pre .0) in fits-below {n = 140} tt (le-trans (s .ordered) (s .within))
+cast-append c = let s = stands _ (c .before .pre .0) in fits-below {n = 154} tt (le-trans (s .ordered) (s .within))
 
 add-append : tie.Need-add-append
 add-append c = search needs
@@ -23,7 +23,7 @@ array-read-append-2 : tie.Need-array-read-append-2
 array-read-append-2 c = search needs
 
 cast-append-2 : tie.Need-cast-append-2
-cast-append-2 c = fits-below {n = 140} tt (stands _ (c .before .pre .0) .within)
+cast-append-2 c = fits-below {n = 154} tt (stands _ (c .before .pre .0) .within)
 
 sub-append : tie.Need-sub-append
 sub-append c = stands _ (c .before .pre .0) .ordered

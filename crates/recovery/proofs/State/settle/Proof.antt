@@ -7,7 +7,7 @@ use Rattle.recovery.proofs.State.settle.Tie as tie
 returns : tie.Need-returns
 unfolding settled
 returns c =
-    let counted = c .before .before in
+    let counted = c .before .before .before in
     rw (c .verdict-of .ensures, counted .count .ensures, counted .before .pre)
 
 pub settle-spec : {M : Type 1} → statement M

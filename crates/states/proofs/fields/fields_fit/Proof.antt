@@ -34,11 +34,14 @@ difference c = search needs
 newest : tie.Need-shared-slice-read-result-10
 newest c = search needs
 
-take-any : tie.Need-shared-slice-read-result-11
+first : tie.Need-shared-slice-read-result-11
+first c = search needs
+
+take-any : tie.Need-shared-slice-read-result-12
 take-any c = search needs
 
 returns : tie.Need-returns
 returns c = refl
 
 pub fields-fit-spec : {M : Type 1} → statement M
-fields-fit-spec = tie.close (tie.spec format rule taken usage history timeout rate paths difference newest take-any returns)
+fields-fit-spec = tie.close (tie.spec format rule taken usage history timeout rate paths difference newest first take-any returns)

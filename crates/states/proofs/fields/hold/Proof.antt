@@ -11,12 +11,12 @@ fields-fit-requires c κs = search needs
 -- enough words
 returns : tie.Need-returns
 unfolding held
-returns c = rw (le-leb 22 _ (c .before .if1 .taken)) (c .fields-fit .ensures)
+returns c = rw (le-leb 24 _ (c .before .if1 .taken)) (c .fields-fit .ensures)
 
 -- fewer
 returns-2 : tie.Need-returns-2
 unfolding held
-returns-2 c = rw (lt-leb 22 _ (c .if1 .left))
+returns-2 c = rw (lt-leb 24 _ (c .if1 .left))
 
 pub hold-spec : {M : Type 1} → statement M
 hold-spec = tie.close (tie.spec fields-fit-requires returns returns-2)

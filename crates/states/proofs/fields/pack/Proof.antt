@@ -31,6 +31,9 @@ cast-difference c = search needs
 cast-newest : tie.Need-cast-newest
 cast-newest c = search needs
 
+cast-first : tie.Need-cast-first
+cast-first c = search needs
+
 returns : tie.Need-returns
 unfolding wordsOf
 returns c = rw (c .count .ensures, c .before .flag .ensures)
@@ -49,6 +52,7 @@ pack-spec =
       cast-paths,
       cast-difference,
       cast-newest,
+      cast-first,
       returns,
       needs,
     ))

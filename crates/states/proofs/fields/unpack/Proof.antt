@@ -8,11 +8,17 @@ use Rattle.states.proofs.fields.unpack.Tie as tie
 read-newest : tie.Need-shared-slice-read-newest
 read-newest c = search needs
 
+read-marks : tie.Need-shared-slice-read-t11
+read-marks c = search needs
+
+read-first : tie.Need-shared-slice-read-t11-2
+read-first c = search needs
+
+cast-first : tie.Need-cast-t14
+cast-first c = search needs
+
 read-take-any : tie.Need-shared-slice-read-take-any
 read-take-any c = search needs
-
-read-take-any-2 : tie.Need-shared-slice-read-take-any-2
-read-take-any-2 c = search needs
 
 read-left : tie.Need-shared-slice-read-left
 read-left c = search needs
@@ -33,7 +39,7 @@ returns : tie.Need-returns
 unfolding stateOf
 returns c =
     let counters = c .before in
-    let setup = counters .before .before .before .before .before .before in
+    let setup = counters .before .before .before .before .before .before .before in
     c .stored .ensures ∙ rw (setup .setup-in .ensures, counters .counters-in .ensures)
 
 pub unpack-spec : {M : Type 1} → statement M
@@ -44,8 +50,10 @@ unpack-spec =
       setup-in-requires,
       read-newest,
       cast-newest,
+      read-marks,
+      read-first,
+      cast-first,
       read-take-any,
-      read-take-any-2,
       read-left,
       read-base,
       counters-in-requires,

@@ -1,8 +1,8 @@
--- `ahz_tape_v2` meets its promise: each arm answers as the room did. Assumes nothing.
+-- `ahz_tape_v3` meets its promise: each arm answers as the room did. Assumes nothing.
 use borrow.Author.Needs.{needs}
 use Rattle.tape_c.proofs.Told.{tape-told}
-use Rattle.tape_c.proofs.tapes.ahz_tape_v2.Statement.{statement}
-use Rattle.tape_c.proofs.tapes.ahz_tape_v2.Tie as tie
+use Rattle.tape_c.proofs.tapes.ahz_tape_v3.Statement.{statement}
+use Rattle.tape_c.proofs.tapes.ahz_tape_v3.Tie as tie
 
 enum-known-n : tie.Need-enum-known-n
 enum-known-n c = search needs
@@ -30,5 +30,5 @@ returns-2 c =
     let at-run = at-number .before .before .before .before in
     tape-told _ _ (rw (at-number .no .given .1) at (at-run .run .ensures))
 
-pub ahz-tape-v2-spec : {M : Type 1} → statement M
-ahz-tape-v2-spec = tie.close (search (tie.spec, enum-known-n, enum-known-no, length-kept, returns, length-kept-2, returns-2, needs))
+pub ahz-tape-v3-spec : {M : Type 1} → statement M
+ahz-tape-v3-spec = tie.close (search (tie.spec, enum-known-n, enum-known-no, length-kept, returns, length-kept-2, returns-2, needs))
