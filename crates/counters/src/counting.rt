@@ -24,11 +24,11 @@ pub fn none() -> Counters
 pub fn count(mut k: Counters, tagless: u64, holes: u64, e: Effect) -> Counters
     ensures { λ r. ⌜ Counts k tagless holes e r ⌝ }
 {
+    k.lost = std::num::wrapping_add_u64(k.lost, e.lost);
     k.discarded = std::num::wrapping_add_u64(k.discarded, !e.passes as u64);
     k.passed = std::num::wrapping_add_u64(k.passed, e.passes as u64);
     k.order = std::num::wrapping_add_u64(k.order, e.order);
     k.rogue = std::num::wrapping_add_u64(k.rogue, e.rogue);
-    k.lost = std::num::wrapping_add_u64(k.lost, e.lost);
     k.before_first = std::num::wrapping_add_u64(k.before_first, holes);
     k.tagless = std::num::wrapping_add_u64(k.tagless, tagless);
     k

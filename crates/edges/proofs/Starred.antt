@@ -12,7 +12,7 @@ use Rattle.rules.specs.Matching.{match}
 use Rattle.rules.specs.ByRule.{byRule}
 use Rattle.rules.specs.FirstPlace.{opened, carried, below, holesIn, traced}
 use Rattle.counters.specs.Counting.{plus, counted}
-use Rattle.recovery.specs.Soundness.{awaits, keepsFirst, sound}
+use Rattle.recovery.specs.Soundness.{awaits, partsAgree, keepsFirst, sound}
 use Rattle.recovery.specs.Resets.{freshState}
 use Rattle.recovery.specs.Timer.{restarted}
 use Rattle.recovery.specs.Packets.{numbered, tracing, settled, heard, packetOf}
@@ -20,6 +20,6 @@ use Rattle.edges.specs.Starred.{cases, Starred}
 
 pub starred : Starred
 unfolding cases tag mark none clearFrom set reach moved lostBy slid lostIn verdict fullTicks ticksOf setupChecks checked isVector
-    isIndividual apart signed difference outOfOrder firstMarks first late onward byDifference vector match plus awaits sound freshState
-    keepsFirst restarted byRule numbered opened carried below holesIn traced tracing counted settled heard packetOf
+    isIndividual apart signed difference outOfOrder firstMarks first late onward byDifference vector match plus awaits partsAgree
+    keepsFirst sound freshState restarted byRule numbered opened carried below holesIn traced tracing counted settled heard packetOf
 starred = refl

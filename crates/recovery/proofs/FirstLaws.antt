@@ -1,7 +1,7 @@
 -- What is kept of the first place, beside the other tests of a sound state: that its mark is set says the rest. Assumes nothing.
 use Prim.Native.Nat.{ℕ, zero-le, _-_, _≤_}
 use mathlib.Core.Path.{_≡_, refl, sym, ap, _∙_}
-use mathlib.Core.Bool.{Bool, true, false, not, _&&_, _||_, and-false, false≢true}
+use mathlib.Core.Bool.{Bool, true, false, not, _&&_, _||_, and-false, or-true, false≢true}
 use lib.Dec.{leb, eqb}
 use borrow.Author.Tests.{eqb-true, eqb-false, eq-eqb, ne-eqb, leb-true, leb-false, le-leb}
 use native.Mathlib.Omega.{arith}
@@ -14,9 +14,9 @@ use Rattle.marks.proofs.Moves.{clear-mark}
 use Rattle.rules.specs.declared.First.{First}
 use Rattle.rules.specs.FirstPlace.{nth, nowhere, opened, carried}
 use Rattle.rules.proofs.FirstLaws.{nowhere-carried}
-use Rattle.rules.proofs.FirstKept.{Stands}
+use Rattle.rules.proofs.FirstKept.{Placed}
 use Rattle.recovery.specs.declared.State.{State}
-use Rattle.recovery.specs.Soundness.{awaits, keepsFirst, firstMarked, sound}
+use Rattle.recovery.specs.Soundness.{awaits, partsAgree, keepsFirst, sound}
 
 module _ (s : State) (fits : clearFrom (s .setup .history) (s .marks) ≡ true) (await : awaits s ≡ true)
     (bare : (isVector (s .setup) || clearFrom 0 (s .marks)) ≡ true) where
@@ -42,13 +42,14 @@ module _ (s : State) (fits : clearFrom (s .setup .history) (s .marks) ≡ true) 
       (λ beyond. absurd (not-clear (first .0 - 1) one (s .setup .history) fits
       (omega (arith, leb-false (first .0) (s .setup .history) beyond, eqb-false (first .0) 0 f))))
 
-  kept-marked : (first : First) → firstMarked (s .marks) first ≡ keepsFirst (s .setup) (s .marks) (s .«take_any») first
-  unfolding firstMarked keepsFirst
+  kept-marked : (first : First)
+      → (eqb (mark (first .0 - 1) (s .marks)) 1 || eqb (first .0) 0) ≡ keepsFirst (s .setup) (s .marks) (s .«take_any») first
+  unfolding keepsFirst
   kept-marked first =
       by-cases (eqb (first .0) 0)
-      (λ none. rw none)
+      (λ none. rw (none, or-true))
       (λ some. by-cases (eqb (mark (first .0 - 1) (s .marks)) 1)
-      (λ t. let one = eqb-true _ _ t in rw (some, no-take-any _ one, no-match _ one, inside first some one, t))
+      (λ t. let one = eqb-true _ _ t in rw (some, t, no-take-any _ one, no-match _ one, inside first some one))
       (λ f. rw (some, f, and-false)))
 
 -- what is said of a first place in the window, part by part
@@ -73,11 +74,11 @@ kept setup marks takeAny first e some =
 
 -- under vector with take-any off that is what `rules` says of it
 module _ (setup : Setup) (vector : isVector setup ≡ true) where
-  pub stands : (marks : Marks) (takeAny : Bool) (first : First) → keepsFirst setup marks takeAny first ≡ true
-      → Stands (setup .history) marks first
-  stands marks takeAny first e some = let here = kept setup marks takeAny first e some in (here .inside, here .marked)
+  pub placed : (marks : Marks) (takeAny : Bool) (first : First) → keepsFirst setup marks takeAny first ≡ true
+      → Placed (setup .history) marks first
+  placed marks takeAny first e some = let here = kept setup marks takeAny first e some in (here .inside, here .marked)
 
-  pub keeps : (marks : Marks) (first : First) → Stands (setup .history) marks first → keepsFirst setup marks false first ≡ true
+  pub keeps : (marks : Marks) (first : First) → Placed (setup .history) marks first → keepsFirst setup marks false first ≡ true
   unfolding keepsFirst
   keeps marks first here =
       by-cases (eqb (first .0) 0)
@@ -86,7 +87,7 @@ module _ (setup : Setup) (vector : isVector setup ≡ true) where
       let there = here (omega (arith, eqb-false (first .0) 0 f)) in
       rw (f, vector, le-leb _ _ (there .0), eq-eqb _ _ (there .1)))
 
--- match keeps none, and none is carried on
+-- match keeps none, and none stays none
 match-nowhere : (setup : Setup) (marks : Marks) (takeAny : Bool) (first : First) → isVector setup ≡ false
     → keepsFirst setup marks takeAny first ≡ true → first ≡ nowhere
 match-nowhere setup marks takeAny first m e =
@@ -109,21 +110,13 @@ keeps-opened setup marks low marked =
     (λ _. refl)
 
 -- so the tests of a sound state may ask for the mark alone, behind the others
-abbrev rest : State → Bool
-rest s =
-    eqb (checked (s .setup)) 0
-    && clearFrom (s .setup .history) (s .marks)
-    && awaits s
-    && (isVector (s .setup) || clearFrom 0 (s .marks))
-    && leb (s .left .0) (fullOf (s .setup) .0)
-
-pub by-mark : (s : State) → (rest s && firstMarked (s .marks) (s .first)) ≡ sound s
-unfolding sound
+pub by-mark : (s : State) → (partsAgree s && (eqb (mark (s .first .0 - 1) (s .marks)) 1 || eqb (s .first .0) 0)) ≡ sound s
+unfolding sound partsAgree
 by-mark s =
-    by-cases (rest s)
+    by-cases (partsAgree s)
     (λ t.
     let bare = both _ (isVector (s .setup) || clearFrom 0 (s .marks)) (both _ (leb (s .left .0) (fullOf (s .setup) .0)) t .0) in
     let await = both _ (awaits s) (bare .0) in
     let fits = both (eqb (checked (s .setup)) 0) (clearFrom (s .setup .history) (s .marks)) (await .0) in
-    ap (λ (b : Bool). rest s && b) (kept-marked s (fits .1) (await .1) (bare .1) (s .first)))
+    ap (λ (b : Bool). partsAgree s && b) (kept-marked s (fits .1) (await .1) (bare .1) (s .first)))
     (λ f. rw f)

@@ -18,6 +18,7 @@ use Start.{started}
 use Run.{Tracks, starts-tracks, numbered-tracks, tagless-tracks, tick-tracks, latent-tracks, range, verdict-there}
 use Rattle.rules.proofs.Places.Sum.{sum-closes}
 use Rattle.rules.proofs.Places.Parts.{lost-parted}
+use Rattle.counters.proofs.Growth.{grown-apart}
 -- to be read in this order: one packet at a sound state; ticks and latent resets, which leave the places alone; what the state keeps over a
 -- span; and where a span starts
 pub mod OnePacket
@@ -49,11 +50,13 @@ unfolding After
 places-accounted start packets s rule span =
     let track : After start packets s = run start rule packets s span in
     let h : (1 ≤ start .setup .history) × (start .setup .history ≤ most) = range start rule _ _ s track in
+    let parted = lost-parted (start .setup .history) (numbers packets) (omega arith) (omega arith) in
     record {
       next = verdict-there start rule _ _ s track;
       passed-grown = track .passed-grown;
       lost-grown = track .lost-grown;
       before-grown = track .before-grown;
-      lost-parted = lost-parted (start .setup .history) (numbers packets) (omega arith) (omega arith);
+      lost-parted = parted;
+      missed-grown = grown-apart _ _ _ _ _ _ (rw parted at (track .lost-grown)) (track .before-grown);
       sum-closes = sum-closes (start .setup .history) (numbers packets) (omega arith) (omega arith);
     }

@@ -20,7 +20,7 @@ use Rattle.recovery.specs.declared.Packet.the-variants.{Numbered, Tagles
 use Rattle.recovery.specs.declared.Timed.{Timed}
 use Rattle.rules.specs.declared.Effect.{Effect}
 use Rattle.rules.specs.Vector.{vector}
-use Rattle.recovery.specs.Soundness.{awaits, keepsFirst, sound}
+use Rattle.recovery.specs.Soundness.{awaits, partsAgree, keepsFirst, sound}
 use Rattle.recovery.specs.Resets.{cleared, resetState}
 use Rattle.recovery.specs.Timer.{restarted, withLeft, timed}
 use Rattle.rules.specs.NoNumber.{unnumbered}
@@ -30,7 +30,7 @@ use Rattle.rules.specs.declared.Traced.{Traced}
 use Rattle.recovery.specs.Packets.{numbered, tracing, staying, settled, heard}
 use Rattle.recovery.specs.LatentErrors.{rebased}
 use Rattle.recovery.proofs.SoundLaws.{Sound, sound-by}
-use Rattle.recovery.proofs.FirstLaws.{stands, keeps, keeps-opened, match-keeps}
+use Rattle.recovery.proofs.FirstLaws.{placed, keeps, keeps-opened, match-keeps}
 use Rattle.recovery.proofs.RuleLaws.{by-take-any, by-vector, by-match, opens, carries}
 use Rattle.rules.proofs.VectorKeeps.{set-first, vector-keeps}
 use Rattle.rules.proofs.FirstKept.{first-kept}
@@ -160,7 +160,7 @@ module _ (s : State) (ok : Sound s) where
           let effect = vector h (s .newest) (s .marks) number in
           let marked : eqb (mark 0 (s .marks)) 1 ≡ true = rw v at (both (leb 1 (s .left .0)) _ when-off .1) in
           let kept = vector-keeps h history-low history-high (s .newest) (s .marks) (ok .clear-above, eqb-true _ _ marked) number in
-          let here = stands (s .setup) v (s .marks) (s .«take_any») (s .first) (ok .first-kept) in
+          let here = placed (s .setup) v (s .marks) (s .«take_any») (s .first) (ok .first-kept) in
           let there = first-kept h history-low history-high (s .newest) (s .marks) (s .first) number here in
           rw (by-vector s number off v)
           (off-sound effect (kept .0) (rw v) (rw (v, eq-eqb _ _ (kept .1))) (left-some (effect .passes))
@@ -214,5 +214,5 @@ module _ (s : State) (ok : Sound s) where
           })
 
   pub rebased-sound : sound (rebased s) ≡ true
-  unfolding rebased sound awaits
+  unfolding rebased sound partsAgree awaits
   rebased-sound = sound-by s ok

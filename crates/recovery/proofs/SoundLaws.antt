@@ -8,7 +8,7 @@ use Rattle.octets.proofs.Bools.{both, and-true}
 use Rattle.setup.specs.Range.{checked, isVector, fullOf}
 use Rattle.marks.specs.Window.{clearFrom}
 use Rattle.recovery.specs.declared.State.{State}
-use Rattle.recovery.specs.Soundness.{awaits, keepsFirst, sound}
+use Rattle.recovery.specs.Soundness.{awaits, partsAgree, keepsFirst, sound}
 
 pub record Sound (s : State) : Type 0 where
   pub in-range : checked (s .setup) ≡ 0
@@ -19,7 +19,7 @@ pub record Sound (s : State) : Type 0 where
   pub first-kept : keepsFirst (s .setup) (s .marks) (s .«take_any») (s .first) ≡ true
 
 pub sound-says : (s : State) → sound s ≡ true → Sound s
-unfolding sound
+unfolding sound partsAgree
 sound-says s e =
     let first = both _ (keepsFirst (s .setup) (s .marks) (s .«take_any») (s .first)) e in
     let left = both _ (leb (s .left .0) (fullOf (s .setup) .0)) (first .0) in
@@ -36,7 +36,7 @@ sound-says s e =
     }
 
 pub sound-by : (s : State) → Sound s → sound s ≡ true
-unfolding sound
+unfolding sound partsAgree
 sound-by s p =
     and-true
     (and-true

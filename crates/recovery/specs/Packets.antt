@@ -1,4 +1,4 @@
--- A packet by its rule, and the next state (document 01, "Numbering and recovery"). Assumes nothing.
+-- A packet by its rule, and the next state (document 01, "Numbering and recovery", and CR 7). Assumes nothing.
 use Prim.Native.Nat.{ℕ}
 use mathlib.Core.Path.{_≡_}
 use mathlib.Core.Bool.{Bool, false, cond}

@@ -26,7 +26,7 @@ use Rattle.recovery.specs.Packets.{Hears}
 use Rattle.recovery.specs.Timer.{Times}
 use Rattle.recovery.specs.LatentErrors.{LatentResets, LatentTests}
 use Rattle.counters.specs.Growth.{Grown}
-use Rattle.rules.specs.Places.{passes, passed, lost, beforeFirst, Parted, Closes}
+use Rattle.rules.specs.Places.{passes, passed, lost, beforeFirst, lostAbove, Parted, Closes}
 
 -- the state that a fresh start, a reset or a timeout hands back
 pub data Starts : State → Type 0 where
@@ -74,8 +74,11 @@ pub record Accounted (h : ℕ) (places : List ℕ) (start : State) (packets : Li
   pub lost-grown : Grown (start .counters .lost) (lost h places) (s .counters .lost)
   -- CR 7: before-first grows by "those of them below the first packet's place"
   pub before-grown : Grown (start .counters .«before_first») (beforeFirst h places) (s .counters .«before_first»)
-  -- "lost less before-first, over the span, counts only places above the first"
+  -- "lost less before-first, over the span, counts only places above the first": of the places, and of the stored counters, whose growth
+  -- it says with what is taken away brought to the other side
   pub lost-parted : Parted h places
+  pub missed-grown : Grown (start .counters .lost + s .counters .«before_first») (lostAbove h places)
+      (s .counters .lost + start .counters .«before_first»)
   -- "And the sum closes"
   pub sum-closes : Closes h places
 

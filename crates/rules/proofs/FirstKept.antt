@@ -18,31 +18,31 @@ use Rattle.rules.proofs.VectorLaws.{apart-self, apart-ahead}
 use Rattle.rules.proofs.FirstLaws.{still-carried, nowhere-carried, carried-in, carried-out}
 
 -- where it is the n-th place, that is one of the h, and mark n - 1 is set
-abbrev pub Stands : ℕ → Marks → First → Type 0
-Stands h marks first = 1 ≤ first .0 → (first .0 ≤ h) × (mark (first .0 - 1) marks ≡ 1)
+abbrev pub Placed : ℕ → Marks → First → Type 0
+Placed h marks first = 1 ≤ first .0 → (first .0 ≤ h) × (mark (first .0 - 1) marks ≡ 1)
 
 module _ (h : ℕ) (low : 1 ≤ h) (high : h ≤ most) (newest : ℕ) (marks : Marks) (n : ℕ) (some : 1 ≤ n) (inside : n ≤ h)
     (marked : mark (n - 1) marks ≡ 1) where
-  abbrev StandsBy : Effect → Type 0
-  StandsBy effect = Stands h (effect .marks) (carried h (apart newest (effect .newest)) (nth n))
+  abbrev PlacedBy : Effect → Type 0
+  PlacedBy effect = Placed h (effect .marks) (carried h (apart newest (effect .newest)) (nth n))
 
   -- where the newest number stays, so does the first place, and its mark is still set
-  stands-still : (later : Marks) → mark (n - 1) later ≡ 1 → Stands h later (carried h (apart newest newest) (nth n))
-  stands-still later still =
+  placed-still : (later : Marks) → mark (n - 1) later ≡ 1 → Placed h later (carried h (apart newest newest) (nth n))
+  placed-still later still =
       rw (apart-self newest, still-carried h (nth n)) (λ _. (inside, still))
 
-  stands-late : (j : ℕ) → j < h → StandsBy (late newest marks j)
+  placed-late : (j : ℕ) → j < h → PlacedBy (late newest marks j)
   unfolding late
-  stands-late j below =
+  placed-late j below =
       let m = sets-mean j marks (omega arith) in
-      either StandsBy (eqb (mark j marks) 1)
-      (λ _. stands-still marks marked)
-      (λ _. stands-still _ (m .mark-after (n - 1) ∙ either (λ (b : ℕ). b ≡ 1) (eqb (n - 1) j) (λ _. refl) (λ _. marked)))
+      either PlacedBy (eqb (mark j marks) 1)
+      (λ _. placed-still marks marked)
+      (λ _. placed-still _ (m .mark-after (n - 1) ∙ either (λ (b : ℕ). b ≡ 1) (eqb (n - 1) j) (λ _. refl) (λ _. marked)))
 
   -- where it goes on by d, the marks move d places too
-  stands-onward : (number d : ℕ) → difference newest number ≡ ahead d → d < h → StandsBy (onward h number marks d)
+  placed-onward : (number d : ℕ) → difference newest number ≡ ahead d → d < h → PlacedBy (onward h number marks d)
   unfolding onward
-  stands-onward number d e below =
+  placed-onward number d e below =
       let moves = apart-ahead newest number d e .1 in
       rw (apart-ahead newest number d e .0)
       (by-cases (leb (n + d) h)
@@ -62,19 +62,19 @@ module _ (h : ℕ) (low : 1 ≤ h) (high : h ≤ most) (newest : ℕ) (marks : M
           )
           marked)
 
-  stands-by : (number : ℕ) (d : Difference) → difference newest number ≡ d → StandsBy (byDifference h newest marks number d)
+  placed-by : (number : ℕ) (d : Difference) → difference newest number ≡ d → PlacedBy (byDifference h newest marks number d)
   unfolding byDifference
-  stands-by number (ahead d) e =
-      either StandsBy (leb h d) (λ _. stands-still marks marked) (λ near. stands-onward number d e (leb-false h d near))
-  stands-by number (behind j) e =
-      either StandsBy (leb h j) (λ _. stands-still marks marked) (λ near. stands-late j (leb-false h j near))
+  placed-by number (ahead d) e =
+      either PlacedBy (leb h d) (λ _. placed-still marks marked) (λ near. placed-onward number d e (leb-false h d near))
+  placed-by number (behind j) e =
+      either PlacedBy (leb h j) (λ _. placed-still marks marked) (λ near. placed-late j (leb-false h j near))
 
-pub first-kept : (h : ℕ) → 1 ≤ h → h ≤ most → (newest : ℕ) (marks : Marks) (first : First) (number : ℕ) → Stands h marks first
-    → Stands h (vector h newest marks number .marks) (carried h (apart newest (vector h newest marks number .newest)) first)
+pub first-kept : (h : ℕ) → 1 ≤ h → h ≤ most → (newest : ℕ) (marks : Marks) (first : First) (number : ℕ) → Placed h marks first
+    → Placed h (vector h newest marks number .marks) (carried h (apart newest (vector h newest marks number .newest)) first)
 unfolding vector
 first-kept h low high newest marks first number here =
     by-cases (eqb (first .0) 0)
     (λ t. rw (eqb-true (first .0) 0 t, nowhere-carried) (λ none. absurd (omega (arith, none))))
     (λ t.
     let some : 1 ≤ first .0 = omega (arith, eqb-false (first .0) 0 t) in
-    stands-by h low high newest marks (first .0) some (here some .0) (here some .1) number (difference newest number) refl)
+    placed-by h low high newest marks (first .0) some (here some .0) (here some .1) number (difference newest number) refl)

@@ -25,7 +25,7 @@ pub still-holes : (h : ℕ) (first : First) (marks : Marks) → holesIn h 0 firs
 unfolding holesIn lostIn
 still-holes h first marks = let none : min 0 (below h first) ≡ 0 = omega arith in rw none
 
--- none is carried on, and has no holes below it
+-- none stays none, and has no holes below it
 pub nowhere-carried : (h d : ℕ) → carried h d nowhere ≡ nowhere
 unfolding carried
 nowhere-carried h d = refl
@@ -34,7 +34,7 @@ pub nowhere-holes : (h d : ℕ) (marks : Marks) → holesIn h d nowhere marks �
 unfolding holesIn below lostIn
 nowhere-holes h d marks = let none : min d 0 ≡ 0 = omega arith in rw none
 
--- so it is with a packet that leaves the newest number, or where there is no first place
+-- so it is with a packet that leaves the newest number as it is, or where there is no first place
 pub stays : (h newest now : ℕ) (first : First) (marks : Marks) → (eqb (first .0) 0 || eqb now newest) ≡ true
     → (carried h (apart newest now) first ≡ first) × (holesIn h (apart newest now) first marks ≡ 0)
 stays h newest now first marks =
@@ -50,8 +50,8 @@ stays h newest now first marks =
 pub moves : (n newest now : ℕ) → newest < 65536 → now < 65536 → (eqb n 0 || eqb now newest) ≡ false → (1 ≤ n) × (1 ≤ apart newest now)
 unfolding apart
 moves n newest now old new off =
-    let apart-both = neither (eqb n 0) (eqb now newest) off in
-    (omega (arith, eqb-false n 0 (apart-both .0)), omega (arith, eqb-false now newest (apart-both .1)))
+    let off-both = neither (eqb n 0) (eqb now newest) off in
+    (omega (arith, eqb-false n 0 (off-both .0)), omega (arith, eqb-false now newest (off-both .1)))
 
 -- the n-th of the places
 module _ (h d n : ℕ) (some : 1 ≤ n) where

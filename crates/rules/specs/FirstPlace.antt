@@ -14,11 +14,11 @@ use Rattle.rules.specs.Difference.{apart}
 abbrev pub nth : ℕ → First
 nth n = record { 0 = n }
 
--- it is none of them: no packet was heard yet, the window has left it, or the rule is match
+-- it is none of them: no numbered packet was heard yet, the window has left it, or the rule is match
 abbrev pub nowhere : First
 nowhere = nth 0
 
--- the first numbered packet: its place is the newest under vector, and "match keep none"
+-- the first numbered packet: its place is the newest under vector; "take-any and match keep none"
 unfoldable pub opened : Bool → First
 opened vector = cond vector (nth 1) nowhere
 
@@ -43,8 +43,8 @@ HolesMean =
     (h d n : ℕ) (marks : Marks) → h ≤ most → d ≤ h → 1 ≤ n → n ≤ h
     → holesIn h d (nth n) marks ≡ clearAmong (max (h - d) n) (min d (h - n)) marks
 
--- a numbered packet, by what it does to the newest number: where that moves on d places the window does, and else it stays. Of h, take-any,
--- the newest number, the marks and the first place before it, and the newest number after it
+-- a numbered packet, by what it does to the newest number: where that moves on d places the window does, and else it stays. Of the rule, h,
+-- take-any, the newest number, the marks and the first place before it, and the newest number after it
 unfoldable pub traced : Bool → ℕ → Bool → ℕ → Marks → First → ℕ → Traced
 traced vector h takeAny newest marks first now =
     cond takeAny

@@ -1,5 +1,5 @@
-// What one packet does by its rule (document 01, "Numbering and recovery"): to the newest number, the marks and the counts. A recovery
-// state is made of that in the room above.
+// What one packet does by its rule (document 01, "Numbering and recovery"): to the newest number, the marks and the counts, and to the
+// first packet's place (CR 7). A recovery state is made of that in the room above.
 //
 // Each call takes any numbers and any marks at all, and always has an answer.
 mod by_rule;

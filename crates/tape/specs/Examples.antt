@@ -1,5 +1,6 @@
--- Document 01's worked tape, seven tapes with fault 23, 24 or 25, and of CR 2 the stuck sender in both uses and a use that there is not:
--- `AsPrinted` says that each prints the lines beside it, a claim, which proofs/Examples proves. Assumes nothing.
+-- Document 01's worked tape, seven tapes with fault 23, 24 or 25, of CR 2 the stuck sender in both uses and a use that there is not, and of
+-- CR 7 a slide that leaves places on both sides of the first packet's: `AsPrinted` says that each prints the lines beside it, a claim,
+-- which proofs/Examples proves. Assumes nothing.
 use Prim.Native.Nat.{ℕ}
 use Prim.Native.String.{String}
 use mathlib.Core.Path.{_≡_}
@@ -31,7 +32,7 @@ cases =
       tape = setup ++ (1 ∷ 0 ∷ 10 ∷ 1 ∷ 0 ∷ 10 ∷ 1 ∷ 0 ∷ 12 ∷ 1 ∷ 0 ∷ 11 ∷ 1 ∷ 0 ∷ 20 ∷ 6 ∷ []);
       lines = "ok\npass\ndiscard\npass\npass\ndiscard\nlatent ok\npassed=3 discarded=2 order=2 rogue=1 lost=2 tagless=0 resets=0 latent-resets=0 before-first=2\n";
     }
-    -- packets 10 12 15: with 12 the window leaves 7 and 8, and with 15 it leaves 9, the first packet's own place and 11
+    -- CR 7, packets 10 12 15: with 12 the window leaves 7 and 8, and with 15 it leaves 9, the first packet's own place and 11
     ∷ record {
       tape = setup ++ (1 ∷ 0 ∷ 10 ∷ 1 ∷ 0 ∷ 12 ∷ 1 ∷ 0 ∷ 15 ∷ []);
       lines = "ok\npass\npass\npass\npassed=3 discarded=0 order=2 rogue=0 lost=4 tagless=0 resets=0 latent-resets=0 before-first=3\n";

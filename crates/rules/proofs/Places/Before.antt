@@ -115,7 +115,8 @@ module _ (h p : ℕ) (ps : List ℕ) (hs : 1 ≤ h) (room : h ≤ most) (newest 
       rw from (sym (lost-in h hs room qs N marks (f .shown) (going h moved d) within (omega (arith, f .kept)))))
       (λ t. let none : going h moved d ≡ 0 = omega (arith, ltb-false moved h t) in rw (none, unpassed-zero))
 
-  -- places that have passed later: the first is the same, the newest stands d further on, and none lies where the window had been
+  -- places that have passed later: the first is the same, the newest stands d further on, and none of the new ones lies among what the
+  -- window has left
   module _ (later : List ℕ) (d : ℕ) (same : firstPlace later ≡ F) (on : newestPlace later ≡ N + d) (few : d < 65536)
       (left : (n : ℕ) → n ≤ movedOn qs + d → unpassed later (F + 1 - h) n ≡ unpassed qs (F + 1 - h) n) where
     moved-on : movedOn later ≡ movedOn qs + d

@@ -15,17 +15,17 @@ returns : tie.Need-returns
 unfolding plus counted
 returns c =
     let before-first = c .before in
-    let lost = before-first .before in
-    let rogue = lost .before in
+    let rogue = before-first .before in
     let order = rogue .before in
     let passed = order .before in
     let discarded = passed .before .before in
+    let lost = discarded .before .before in
     rw (
-      discarded .wrapping-add-u64 .ensures,
-      passed .wrapping-add-u642 .ensures,
-      order .wrapping-add-u643 .ensures,
-      rogue .wrapping-add-u644 .ensures,
-      lost .wrapping-add-u645 .ensures,
+      lost .wrapping-add-u64 .ensures,
+      discarded .wrapping-add-u642 .ensures,
+      passed .wrapping-add-u643 .ensures,
+      order .wrapping-add-u644 .ensures,
+      rogue .wrapping-add-u645 .ensures,
       before-first .wrapping-add-u646 .ensures,
       c .wrapping-add-u647 .ensures,
       ← one-if,

@@ -2,7 +2,7 @@
 use mathlib.Core.Bool.{and-true, and-false}
 use Rattle.octets.proofs.Bools.{said-yes, said-no}
 use Rattle.setup.specs.Range.{isVector}
-use Rattle.recovery.specs.Soundness.{awaits}
+use Rattle.recovery.specs.Soundness.{awaits, partsAgree}
 use Rattle.recovery.proofs.FirstLaws.{by-mark}
 use borrow.Author.Needs.{needs}
 use Rattle.recovery.proofs.State.is_sound.Statement.{statement}
@@ -17,11 +17,11 @@ returns c = rw (← by-mark _, said-no (c .before .first-marked .ensures) (c .if
 
 -- each other part that is asked for is the definition's
 returns-2 : tie.Need-returns-2
-unfolding awaits isVector
+unfolding partsAgree awaits isVector
 returns-2 c =
     let counted = c .before in
-    let first = counted .before in
-    let bare = first .before in
+    let newest = counted .before in
+    let bare = newest .before in
     let above = bare .before in
     let refusal = above .before .before in
     let full = refusal .before in
@@ -30,7 +30,7 @@ returns-2 c =
       ← by-mark _,
       said-yes (marked .before .first-marked .ensures) (marked .if1 .left),
       and-true,
-      ← first .is-set .ensures,
+      ← newest .is-set .ensures,
       ← bare .clear-from2 .ensures,
       ← above .clear-from .ensures,
       ← refusal .check .ensures,

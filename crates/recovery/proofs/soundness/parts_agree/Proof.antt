@@ -32,7 +32,7 @@ returns-2 : tie.Need-returns-2
 returns-2 c =
     let a = c .before .before .args in
     rw (c .before .if1 .left, c .if2 .taken)
-    (together (eqb (a .refusal) 0 && a .above) (leb (a .left) (a .full)) (leb 1 (a .left)) (a .first) true)
+    (together (eqb (a .refusal) 0 && a .above) (leb (a .left) (a .full)) (leb 1 (a .left)) (a .newest-marked) true)
 
 -- one under match
 returns-3 : tie.Need-returns-3
