@@ -20,7 +20,7 @@ enum-told c = search needs
 
 -- the timer's rule gives the ticks left
 settle-requires : tie.Need-settle-requires
-settle-requires c κs = c .before .before .left-after .ensures
+settle-requires c κs = c .left-after .ensures
 
 settle-requires-2 : tie.Need-settle-requires-2
 settle-requires-2 c κs = c .before .left-after2 .ensures
@@ -34,8 +34,8 @@ returns c = rw (said-no (c .before .is-sound .ensures) (c .if1 .taken))
 returns-2 : tie.Need-returns-2
 unfolding packetOf heard tracing numbered isVector
 returns-2 c =
-    let traced = c .before in
-    let at-rule = traced .before .before .before in
+    let traced = c .before .before in
+    let at-rule = traced .before .before in
     let told = at-rule .before .before in
     rw (sound-here (told .before .before), told .packet .given .1)
     (c .settle .ensures ∙ rw (traced .trace .ensures, at-rule .hear-numbered .ensures))
