@@ -1,5 +1,4 @@
 -- `State::anew` meets its contract. Assumes nothing.
-use mathlib.Core.Path.{_∙_}
 use Rattle.recovery.specs.Resets.{resetState}
 use borrow.Author.Needs.{needs}
 use Rattle.recovery.proofs.State.anew.Statement.{statement}
@@ -7,7 +6,7 @@ use Rattle.recovery.proofs.State.anew.Tie as tie
 
 returns : tie.Need-returns
 unfolding resetState
-returns c = c .clear .ensures ∙ rw (c .before .count-reset .ensures)
+returns c = rw (c .clear .ensures, c .before .count-reset .ensures)
 
 pub anew-spec : {M : Type 1} → statement M
 anew-spec = tie.close (search (tie.spec, returns, needs))

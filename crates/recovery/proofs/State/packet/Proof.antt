@@ -1,5 +1,5 @@
 -- `State::packet` meets its promise. Assumes nothing.
-use mathlib.Core.Path.{_≡_, _∙_}
+use mathlib.Core.Path.{_≡_}
 use mathlib.Core.Bool.{true}
 use Rattle.octets.proofs.Bools.{said-yes, said-no}
 use Rattle.setup.specs.Range.{isVector}
@@ -37,8 +37,13 @@ returns-2 c =
     let traced = c .before .before in
     let at-rule = traced .before .before in
     let told = at-rule .before .before in
-    rw (sound-here (told .before .before), told .packet .given .1)
-    (c .settle .ensures ∙ rw (traced .trace .ensures, at-rule .hear-numbered .ensures))
+    rw (
+      sound-here (told .before .before),
+      told .packet .given .1,
+      c .settle .ensures,
+      traced .trace .ensures,
+      at-rule .hear-numbered .ensures,
+    )
 
 -- one without
 returns-3 : tie.Need-returns-3
@@ -46,7 +51,12 @@ unfolding packetOf heard staying
 returns-3 c =
     let at-rule = c .before .before .before in
     let told = at-rule .before in
-    rw (sound-here (told .before .before), told .enum-told .given .1) (c .settle2 .ensures ∙ rw (at-rule .hear-no-number .ensures))
+    rw (
+      sound-here (told .before .before),
+      told .enum-told .given .1,
+      c .settle2 .ensures,
+      at-rule .hear-no-number .ensures,
+    )
 
 pub packet-spec : {M : Type 1} → statement M
 packet-spec =
