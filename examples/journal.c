@@ -168,13 +168,13 @@ static int wait_for_reset(ahz_state_t *state) {
 
 /* Lost counts places of the window, and not frames: each place that left it before a packet passed there. At the first packet the places
  * before its number are open, history - 1 of them, and they leave as the window moves on. So a run that missed nothing counts lost too.
- * Before-first counts these alone, and lost less before-first is what was missed. Match has no window, and counts neither. */
+ * Before-first counts these alone, so lost less before-first lies above the first packet. Match has no window, and counts neither. */
 static void print_counters(const ahz_state_t *state) {
     const ahz_counters_t n = ahz_state_counters(state);
     printf("  passed=%" PRIu64 " discarded=%" PRIu64 " order=%" PRIu64 " rogue=%" PRIu64, n.passed, n.discarded, n.order, n.rogue);
     printf(" lost=%" PRIu64 " tagless=%" PRIu64 " resets=%" PRIu64 " latent-resets=%" PRIu64 " before-first=%" PRIu64 "\n", n.lost,
            n.tagless, n.resets, n.latent_resets, n.before_first);
-    if (ahz_state_setup(state).rule == AHZ_RULE_VECTOR) printf("  missed %" PRIu64 ": lost less before-first\n", n.lost - n.before_first);
+    if (ahz_state_setup(state).rule == AHZ_RULE_VECTOR) printf("  lost above the first packet: %" PRIu64 "\n", n.lost - n.before_first);
 }
 
 /* The setups, constants as the table is. Two paths are merged here, so the use is sequence: only a packet that passes restarts the timer.

@@ -65,9 +65,10 @@
  * From 2 to 3 a state got a ninth counter, before-first, and keeps for it where in the window the first packet's place stands.
  *   Names: ahz_fresh_v2 and ahz_tape_v2 are now ahz_fresh_v3 and ahz_tape_v3, with the arguments that they had. A state has 24 words and
  *     had 22: AHZ_S_FIRST comes after the marks, and AHZ_S_BEFORE_FIRST after the other counters, as before_first in ahz_counters_t.
- *   Tapes of version 2 run as they did; the last line of the output ends with ` before-first=N`, and AHZ_TAPE_OUTPUT is so much larger.
- *   Sources: one that has AHZ_S_.. for words and AHZ_S_WORDS for their count needs the two names and nothing else. One that has 22 is
- *     refused, by 8 for a fresh state and by 14 for a step. */
+ *   Tapes of version 2 run as they did; the output's last line ends with ` before-first=N`, and AHZ_TAPE_OUTPUT is 34 octets larger.
+ *   Sources: one that makes the typed calls needs no change, and one that makes the others the new names of the two. Words have to be read
+ *     by AHZ_S_..: from AHZ_S_TAKE_ANY on they stand elsewhere, and a bare number reads another word. With 22 words in place of
+ *     AHZ_S_WORDS a fresh state is refused by 8 and a step by 14. */
 #define AHZ_VERSION_MAJOR 3
 #define AHZ_VERSION_MINOR 0
 #define AHZ_VERSION (AHZ_VERSION_MAJOR * 65536u + AHZ_VERSION_MINOR)
@@ -473,7 +474,7 @@ typedef struct {
 } ahz_generator_t;
 
 /* The nine counters of a state. lost counts each place that left the window before a packet passed there, and before_first those of them
- * below the place of the first packet after a start or a reset. So lost - before_first, modulo 2^64, is what was really missed. */
+ * below the place of the first packet after a start or a reset. So lost - before_first, modulo 2^64, counts only places above it. */
 typedef struct {
     uint64_t passed;
     uint64_t discarded;
@@ -714,8 +715,8 @@ AHZ_USE_ANSWER AHZ_INLINE uint64_t ahz_state_marks(const ahz_state_t *state) {
     return state->words[AHZ_S_MARKS];
 }
 
-/* 1, and in below how many places below the newest the first packet's place stands, 0 where it is the newest; or 0 where it stands in the
- * window no more, or never did, and below stays: */
+/* 1, and in below how far below the newest the first packet's place stands, which is 0 while it is the newest. Or 0, and below stays, where
+ * no place of the window is the first packet's: no packet with a number yet, the window has left it, or match. */
 AHZ_USE_ANSWER AHZ_INLINE int ahz_state_first(const ahz_state_t *state, uint16_t *below) {
     if (state->words[AHZ_S_FIRST] == 0) return 0;
     *below = AHZ_CAST(uint16_t, state->words[AHZ_S_FIRST] - 1);

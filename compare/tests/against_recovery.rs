@@ -307,7 +307,7 @@ fn words_that_hold_no_state() {
     let mut cases = 0;
     let words = words::of_state(&busy());
     // A word above what its field can hold, by one bit and by all from there on. The bits that the
-    // field holds are those of a sound state. A first place of 65,536 fits, beyond every window.
+    // field holds are those of a sound state.
     let of_the_setup = [(1, 8), (2, 8), (3, 8), (4, 16), (5, 32), (6, 16), (7, 8), (8, 32)];
     let without_a_first = words::of_state(&State { first: None, ..busy() });
     for (at, bits) in of_the_setup.into_iter().chain([(9, 16), (AHZ_S_FIRST, 16), (12, 1)]) {

@@ -10,7 +10,7 @@ use Rattle.rules.specs.TakeAny.{firstMarks, first}
 use Rattle.rules.specs.Vector.{late, onward, byDifference, vector}
 use Rattle.rules.specs.Matching.{match}
 use Rattle.rules.specs.ByRule.{byRule}
-use Rattle.rules.specs.FirstPlace.{opened, carried, below, holesIn, traced}
+use Rattle.rules.specs.FirstPlace.{opened, carried, holeBy, holesIn, traced}
 use Rattle.counters.specs.Counting.{plus, counted}
 use Rattle.recovery.specs.Soundness.{awaits, partsAgree, keepsFirst, sound}
 use Rattle.recovery.specs.Resets.{freshState}
@@ -21,5 +21,5 @@ use Rattle.edges.specs.Starred.{cases, Starred}
 pub starred : Starred
 unfolding cases tag mark none clearFrom set reach moved lostBy slid lostIn verdict fullTicks ticksOf setupChecks checked isVector
     isIndividual apart signed difference outOfOrder firstMarks first late onward byDifference vector match plus awaits partsAgree
-    keepsFirst sound freshState restarted byRule numbered opened carried below holesIn traced tracing counted settled heard packetOf
+    keepsFirst sound freshState restarted byRule numbered opened carried holeBy holesIn traced tracing counted settled heard packetOf
 starred = refl

@@ -53,21 +53,24 @@ module _ (s : State) (fits : clearFrom (s .setup .history) (s .marks) ≡ true) 
       (λ f. rw (some, f, and-false)))
 
 -- what is said of a first place in the window, part by part
-pub record Kept (setup : Setup) (marks : Marks) (n : ℕ) : Type 0 where
+record Kept (setup : Setup) (marks : Marks) (takeAny : Bool) (n : ℕ) : Type 0 where
+  pub heard : not takeAny ≡ true
   pub vector : isVector setup ≡ true
   pub inside : n ≤ setup .history
   pub marked : mark (n - 1) marks ≡ 1
 
-pub kept : (setup : Setup) (marks : Marks) (takeAny : Bool) (first : First) → keepsFirst setup marks takeAny first ≡ true → 1 ≤ first .0
-    → Kept setup marks (first .0)
+kept : (setup : Setup) (marks : Marks) (takeAny : Bool) (first : First) → keepsFirst setup marks takeAny first ≡ true → 1 ≤ first .0
+    → Kept setup marks takeAny (first .0)
 unfolding keepsFirst
 kept setup marks takeAny first e some =
     let n : ℕ = first .0 in
     let there : n ≡ 0 → ⊥ = λ none. omega arith in
     let marked = both (not takeAny && isVector setup && leb n (setup .history)) (eqb (mark (n - 1) marks) 1) (rw (ne-eqb n 0 there) at e) in
     let inside = both (not takeAny && isVector setup) (leb n (setup .history)) (marked .0) in
+    let known = both (not takeAny) (isVector setup) (inside .0) in
     record {
-      vector = both (not takeAny) (isVector setup) (inside .0) .1;
+      heard = known .0;
+      vector = known .1;
       inside = leb-true n (setup .history) (inside .1);
       marked = eqb-true _ _ (marked .1);
     }
@@ -87,13 +90,21 @@ module _ (setup : Setup) (vector : isVector setup ≡ true) where
       let there = here (omega (arith, eqb-false (first .0) 0 f)) in
       rw (f, vector, le-leb _ _ (there .0), eq-eqb _ _ (there .1)))
 
+-- one that cannot be a place is none
+unless-one : (first : First) → (1 ≤ first .0 → ⊥) → first ≡ nowhere
+unless-one first never =
+    by-cases (eqb (first .0) 0)
+    (λ none. ap nth (eqb-true (first .0) 0 none))
+    (λ f. absurd (never (omega (arith, eqb-false (first .0) 0 f))))
+
+-- take-any keeps none
+pub take-any-nowhere : (setup : Setup) (marks : Marks) (first : First) → keepsFirst setup marks true first ≡ true → first ≡ nowhere
+take-any-nowhere setup marks first e = unless-one first (λ some. false≢true (kept setup marks true first e some .heard))
+
 -- match keeps none, and none stays none
 match-nowhere : (setup : Setup) (marks : Marks) (takeAny : Bool) (first : First) → isVector setup ≡ false
     → keepsFirst setup marks takeAny first ≡ true → first ≡ nowhere
-match-nowhere setup marks takeAny first m e =
-    by-cases (eqb (first .0) 0)
-    (λ none. ap nth (eqb-true (first .0) 0 none))
-    (λ f. absurd (false≢true (sym m ∙ kept setup marks takeAny first e (omega (arith, eqb-false (first .0) 0 f)) .vector)))
+match-nowhere setup marks takeAny first m e = unless-one first (λ some. false≢true (sym m ∙ kept setup marks takeAny first e some .vector))
 
 pub match-keeps : (setup : Setup) (marks : Marks) (takeAny : Bool) (first : First) → isVector setup ≡ false
     → keepsFirst setup marks takeAny first ≡ true → (later : Marks) (h d : ℕ) → keepsFirst setup later false (carried h d first) ≡ true

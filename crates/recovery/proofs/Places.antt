@@ -15,7 +15,7 @@ use Rattle.rules.specs.Places.{passed}
 use Rattle.recovery.specs.Spans.{Span, starts, hears, ticks, latent-resets, latent-tests, SixteenBits, numbers, taken}
 use Rattle.recovery.specs.Spans.{PlacesAccounted}
 use Start.{started}
-use Run.{Tracks, starts-tracks, numbered-tracks, tagless-tracks, tick-tracks, latent-tracks, range, verdict-there}
+use Run.{Tracks, starts-tracks, numbered-tracks, tagless-tracks, tick-tracks, latent-tracks, range, first-there, verdict-there}
 use Rattle.rules.proofs.Places.Sum.{sum-closes}
 use Rattle.rules.proofs.Places.Parts.{lost-parted}
 use Rattle.counters.proofs.Growth.{grown-apart}
@@ -55,6 +55,7 @@ places-accounted start packets s rule span =
       next = verdict-there start rule _ _ s track;
       passed-grown = track .passed-grown;
       lost-grown = track .lost-grown;
+      first-stands = first-there start rule _ _ s track;
       before-grown = track .before-grown;
       lost-parted = parted;
       missed-grown = grown-apart _ _ _ _ _ _ (rw parted at (track .lost-grown)) (track .before-grown);

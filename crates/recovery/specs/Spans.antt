@@ -26,6 +26,7 @@ use Rattle.recovery.specs.Packets.{Hears}
 use Rattle.recovery.specs.Timer.{Times}
 use Rattle.recovery.specs.LatentErrors.{LatentResets, LatentTests}
 use Rattle.counters.specs.Growth.{Grown}
+use Rattle.rules.specs.FirstPlace.{standingAfter}
 use Rattle.rules.specs.Places.{passes, passed, lost, beforeFirst, lostAbove, Parted, Closes}
 
 -- the state that a fresh start, a reset or a timeout hands back
@@ -72,10 +73,12 @@ pub record Accounted (h : ℕ) (places : List ℕ) (start : State) (packets : Li
   -- "stored passed and lost grow by these counts modulo 2^64, passed also by packets taken without a number"
   pub passed-grown : Grown (start .counters .passed) (length places + taken (start .setup) packets) (s .counters .passed)
   pub lost-grown : Grown (start .counters .lost) (lost h places) (s .counters .lost)
-  -- CR 7: before-first grows by "those of them below the first packet's place"
+  -- CR 7, "The state keeps what it needs": where in the window the first packet's place stands
+  pub first-stands : s .first ≡ standingAfter h places
+  -- before-first grows by "those of them below the first packet's place"
   pub before-grown : Grown (start .counters .«before_first») (beforeFirst h places) (s .counters .«before_first»)
-  -- "lost less before-first, over the span, counts only places above the first": of the places, and of the stored counters, whose growth
-  -- it says with what is taken away brought to the other side
+  -- "lost less before-first, over the span, counts only places above the first": of the places; and of the stored counters, by sums, so
+  -- that nothing is subtracted
   pub lost-parted : Parted h places
   pub missed-grown : Grown (start .counters .lost + s .counters .«before_first») (lostAbove h places)
       (s .counters .lost + start .counters .«before_first»)

@@ -46,7 +46,7 @@ impl State {
         }
     }
 
-    // The first place is traced before the timer is asked: the other way round a step is 0.4 to 0.9 ns slower (docs/MEASURES.md).
+    // The first place is traced before the timer is asked: the other way round a step takes 0.6 to 1.1 ns more (docs/MEASURES.md).
     pub fn packet(self, packet: Packet) -> Heard
         ensures { λ r. ⌜ Hears self packet r ⌝ }
     {

@@ -121,8 +121,7 @@ fn read(state: &[u64]) -> Held
 
 // The sound state that the words hold. The setup is checked first, on the words as they are, with one test for each number that has a
 // range: whether its field can hold the word and whether the value is in range then say nothing new, and the compiler leaves these tests
-// out. The use is asked by itself before: of three flags in one test the compiler would ask two again. So is the first place: no window
-// has more than 64 places, and a greater number is none of them (docs/MEASURES.md).
+// out. The use is asked by itself before: of three flags in one test the compiler would ask two again (docs/MEASURES.md).
 pub fn read_sound(state: &[u64]) -> Held
     ensures { λ r. ⌜ ReadsSound (now (state .entry)) r ⌝ }
 {
@@ -130,9 +129,6 @@ pub fn read_sound(state: &[u64]) -> Held
         return Held::Nothing;
     }
     if 1 < state[3] {
-        return Held::Nothing;
-    }
-    if 64 < state[11] {
         return Held::Nothing;
     }
     if !setup_fits(state) {

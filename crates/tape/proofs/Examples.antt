@@ -9,7 +9,7 @@ use Rattle.recovery.specs.Resets.{freshState, begunFrom, resetState}
 use Rattle.recovery.specs.Soundness.{awaits, partsAgree, keepsFirst, sound}
 use Rattle.rules.specs.Difference.{apart, signed, difference}
 use Rattle.rules.specs.Vector.{late, onward, byDifference, vector}
-use Rattle.rules.specs.FirstPlace.{opened, carried, below, holesIn, traced}
+use Rattle.rules.specs.FirstPlace.{opened, carried, holeBy, holesIn, traced}
 use Rattle.recovery.specs.Timer.{restarted, timed, tickOf}
 use Rattle.recovery.specs.Packets.{numbered, tracing, settled, heard, packetOf}
 use Rattle.rules.specs.TakeAny.{firstMarks, first}
@@ -26,7 +26,7 @@ use Rattle.tape.specs.Examples.{setupFor, setup, stuck, cases, AsPrinted
 pub as-printed : AsPrinted
 unfolding be16 be32 mark none clearFrom set reach moved lostBy slid lostIn fullTicks ticksOf setupChecks checked isVector isIndividual plus
     freshState begunFrom awaits partsAgree keepsFirst sound apart signed difference late onward byDifference vector restarted timed tickOf
-    resetState resetCounted byRule numbered firstMarks first opened carried below holesIn traced tracing counted settled heard packetOf less
+    resetState resetCounted byRule numbered firstMarks first opened carried holeBy holesIn traced tracing counted settled heard packetOf less
     absolute figure exceeds latentError latentTestOf cases setupFor setup stuck outputOf tapeChecks verdict played linesFrom figures
     outcomeAt eventAt checks begins known width setupAt callAt runs text faultText labels listed countersText decimalIn
 as-printed = refl

@@ -5,7 +5,7 @@
 //! same calls over slices, with types for units and answers, and is what a program should use.
 //!
 //! A call whose name ends in `_v2` or `_v3` took or wrote something else before that version. So an older
-//! archive is not linked and then misread: it does not have these names.
+//! archive is not linked and then misread: it does not have all of these names.
 //!
 //! # What every call asks for
 //!

@@ -16,12 +16,14 @@ use Rattle.setup.specs.Range.{isVector}
 use Rattle.rules.specs.NoNumber.{unnumbered}
 use Rattle.recovery.specs.Packets.{numbered, tracing}
 use Rattle.rules.specs.declared.First.{First}
-use Rattle.rules.specs.FirstPlace.{traced}
+use Rattle.rules.specs.FirstPlace.{standing, standingAfter, traced}
 use Rattle.rules.specs.Places.{firstPlace, movedOn, passes, after}
 use Rattle.recovery.proofs.RuleLaws.{by-take-any, by-vector}
+use Rattle.recovery.proofs.SoundLaws.{Sound}
+use Rattle.recovery.proofs.FirstLaws.{take-any-nowhere}
 use Rattle.rules.proofs.Places.First.{first-obeys}
 use Rattle.rules.proofs.Places.Step.{Follows, Obeys, vector-obeys}
-use Rattle.rules.proofs.Places.Before.{standing, Keeps, first-keeps, later-keeps}
+use Rattle.rules.proofs.Places.Before.{Keeps, first-keeps, later-keeps}
 
 -- before the first numbered packet any is taken; after it the newest number, the marks and the first place follow the places
 abbrev pub Stands : ℕ → List ℕ → Bool → ℕ → Marks → First → Type 0
@@ -35,6 +37,13 @@ pub stands-of : (h : ℕ) (ps : List ℕ) (newest : ℕ) (marks : Marks) (first 
 unfolding firstPlace
 stands-of h [] newest marks first f e = absurd (omega (arith, f .kept .turn))
 stands-of h (p ∷ ps) newest marks first f e = (refl, f, e)
+
+-- in a sound state the first place stands where the places say, before the first packet too
+pub stands-there : (s : State) (h : ℕ) (ps : List ℕ) → Sound s → Stands h ps (s .«take_any») (s .newest) (s .marks) (s .first)
+    → s .first ≡ standingAfter h ps
+unfolding standingAfter
+stands-there s h [] ok any = take-any-nowhere (s .setup) (s .marks) (s .first) (rw any at (ok .first-kept))
+stands-there s h (p ∷ ps) ok st = st .2
 
 -- a numbered packet does what the places say
 pub numbered-obeys : (s : State) (h : ℕ) (ps : List ℕ) (number : ℕ) → s .setup .history ≡ h → isVector (s .setup) ≡ true

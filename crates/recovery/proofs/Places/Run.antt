@@ -21,6 +21,7 @@ use Rattle.recovery.specs.Packets.{numbered, tracing, staying, settled, 
 use Rattle.recovery.specs.Timer.{tickOf}
 use Rattle.recovery.specs.LatentErrors.{rebased, latentResetOf}
 use Rattle.rules.specs.NoNumber.{unnumbered}
+use Rattle.rules.specs.FirstPlace.{standingAfter}
 use Rattle.rules.specs.Places.{passes, after, lost, beforeFirst}
 use Rattle.counters.specs.Growth.{Grown}
 use Rattle.counters.proofs.Growth.{packets-grow, grown-more}
@@ -30,7 +31,7 @@ use Rattle.recovery.proofs.SoundCalls.{packet-answers, tick-answers, la
 use Rattle.recovery.proofs.SoundKept.{heard-sound, timed-sound, rebased-sound}
 use Rattle.rules.proofs.Places.Step.{Obeys, lost-none}
 use Rattle.rules.proofs.Places.Before.{Keeps, none-before-first}
-use Rattle.recovery.proofs.Places.OnePacket.{Stands, stands-of, numbered-obeys, tracing-keeps, one-more, untouched}
+use Rattle.recovery.proofs.Places.OnePacket.{Stands, stands-of, stands-there, numbered-obeys, tracing-keeps, one-more, untouched}
 use Rattle.recovery.proofs.Places.Quiet.{Alike, tick-alike, latent-alike}
 
 pub record Tracks (start : State) (ps : List ℕ) (tags : ℕ) (s : State) : Type 0 where
@@ -66,6 +67,9 @@ module _ (start : State) (rule : isVector (start .setup) ≡ true) where
 
     same-history : s .setup .history ≡ h
     same-history = ap (λ (c : Setup). c .history) (track .same-setup)
+
+    pub first-there : s .first ≡ standingAfter h ps
+    first-there = stands-there s h ps ok (track .stands)
 
     numbered-there : (number : ℕ) → number < 65536 → Obeys h ps number (numbered s number)
     numbered-there number bits =

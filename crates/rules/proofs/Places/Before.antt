@@ -16,7 +16,7 @@ use Rattle.marks.specs.Window.{most, lostIn}
 use Rattle.rules.specs.declared.First.{First}
 use Rattle.rules.specs.declared.Traced.{Traced}
 use Rattle.rules.specs.Difference.{apart}
-use Rattle.rules.specs.FirstPlace.{nth, nowhere, opened, carried, holesIn, traced}
+use Rattle.rules.specs.FirstPlace.{nth, nowhere, opened, carried, holesIn, standing, traced}
 use Rattle.rules.specs.Places.{newestPlace, firstPlace, place, passes, after, unpassed, movedOn, beforeFirst}
 use Rattle.rules.proofs.FirstLaws.{nowhere-carried, carried-in, carried-out, nowhere-holes, nth-holes}
 use Rattle.rules.proofs.Places.Passing.{passes-above, passes-below}
@@ -24,10 +24,6 @@ use Rattle.rules.proofs.Places.Counting.{unpassed-zero, unpassed-split,
 use Rattle.rules.proofs.Places.Sum.{newest-alone, newest-next, first-next}
 use Rattle.rules.proofs.Places.Shown.{lost-in}
 use Rattle.rules.proofs.Places.Step.{Follows}
-
--- where the first place stands once the window has moved on so far
-unfoldable pub standing : ℕ → ℕ → First
-standing h moved = cond (ltb moved h) (nth (moved + 1)) nowhere
 
 -- what is kept of the first place and counted with a numbered packet, as the places say that passed before it and after it
 pub record Keeps (h : ℕ) (ps later : List ℕ) (f : Traced) : Type 0 where

@@ -64,7 +64,7 @@ pub struct Counters {
     pub latent_resets: u64,
     /// [`lost`](Counters::lost) counts all places that the window left and that nothing passed at, and
     /// this those of them that lie below the first packet's place. So `lost.wrapping_sub(before_first)`
-    /// is what was really missed.
+    /// counts only places above it.
     pub before_first: u64,
 }
 

@@ -54,7 +54,7 @@ count-requires c κs =
     let at-loop = turn .before in
     let inv = at-loop .loop .inv in
     let within = room (at-loop .before) in
-    (omega arith, omega (arith, next-room (nine (at-loop .before)) inv (turn .loop-test .taken), same-length (inv .appends), within))
+    (omega arith, omega (arith, next-room (nine (at-loop .before)) inv (omega arith), same-length (inv .appends), within))
 
 add-i : tie.Need-add-i Inv-loop μ-loop
 add-i c = search needs
@@ -67,7 +67,7 @@ loop-again c =
     let counted = c .before .before in
     let turn = counted .before .before in
     let at-loop = turn .before in
-    goes-on (nine (at-loop .before)) (at-loop .loop .inv) (turn .loop-test .taken) (counted .count .ensures)
+    goes-on (nine (at-loop .before)) (at-loop .loop .inv) (omega arith) (counted .count .ensures)
 
 word-requires : tie.Need-word-requires Inv-loop μ-loop
 unfolding words lineWords
