@@ -26,7 +26,7 @@
  *
  * Stack. A call takes at most AHZ_STACK octets, and ahz_tape_v3 at most AHZ_TAPE_STACK; tests/c/stack.c holds both targets to it. In this
  * version it finds 54,320 octets on aarch64 and 54,120 on x86_64 for ahz_tape_v3, what its memcpy and memset take among them, and at most
- * 120 for any other call. The bounds are the archive's own: what memcpy and memset take comes on top, and what the dynamic linker takes
+ * 128 for any other call. The bounds are the archive's own: what memcpy and memset take comes on top, and what the dynamic linker takes
  * where it looks these two up at their first call. On x86_64 the code also writes below its stack pointer, into the red zone of the System
  * V convention.
  *

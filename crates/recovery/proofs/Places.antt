@@ -58,6 +58,6 @@ places-accounted start packets s rule span =
       first-stands = first-there start rule _ _ s track;
       before-grown = track .before-grown;
       lost-parted = parted;
-      missed-grown = grown-apart _ _ _ _ _ _ (rw parted at (track .lost-grown)) (track .before-grown);
+      above-grown = grown-apart _ _ _ _ _ _ (rw parted at (track .lost-grown)) (track .before-grown);
       sum-closes = sum-closes (start .setup .history) (numbers packets) (omega arith) (omega arith);
     }

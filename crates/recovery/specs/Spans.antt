@@ -80,7 +80,7 @@ pub record Accounted (h : ℕ) (places : List ℕ) (start : State) (packets : Li
   -- "lost less before-first, over the span, counts only places above the first": of the places; and of the stored counters, by sums, so
   -- that nothing is subtracted
   pub lost-parted : Parted h places
-  pub missed-grown : Grown (start .counters .lost + s .counters .«before_first») (lostAbove h places)
+  pub above-grown : Grown (start .counters .lost + s .counters .«before_first») (lostAbove h places)
       (s .counters .lost + start .counters .«before_first»)
   -- "And the sum closes"
   pub sum-closes : Closes h places

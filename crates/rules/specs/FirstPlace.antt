@@ -48,7 +48,7 @@ HolesMean =
 
 -- where it stands by the places: as far below the newest as the window has moved on since the first packet, and nowhere once that is h
 unfoldable pub standing : ℕ → ℕ → First
-standing h moved = cond (ltb moved h) (nth (moved + 1)) nowhere
+standing h on = cond (ltb on h) (nth (on + 1)) nowhere
 
 -- of the places that have passed; before the first of them it stands nowhere
 unfoldable pub standingAfter : ℕ → List ℕ → First
