@@ -156,21 +156,17 @@ fn pack(s: State) -> [u64; 24]
     ensures { λ r. ⌜ r ≡ wordsOf s ⌝ }
 {
     let setup = s.setup;
-    let timeout = setup.timeout;
-    let marks = s.marks;
-    let left = s.left;
     let counters = s.counters;
     let rule = setup.rule as u64;
     let taken = setup.taken as u64;
     let usage = setup.usage as u64;
     let history = setup.history as u64;
-    let milliseconds = timeout.0 as u64;
+    let milliseconds = setup.timeout.0 as u64;
     let rate = setup.rate as u64;
     let paths = setup.paths as u64;
     let difference = setup.difference as u64;
     let newest = s.newest as u64;
-    let place = s.first;
-    let first = place.0 as u64;
+    let first = s.first.0 as u64;
     [
         1095260675,
         rule,
@@ -182,10 +178,10 @@ fn pack(s: State) -> [u64; 24]
         paths,
         difference,
         newest,
-        marks.0,
+        s.marks.0,
         first,
         flag(s.take_any),
-        left.count(),
+        s.left.count(),
         counters.passed,
         counters.discarded,
         counters.order,
