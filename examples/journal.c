@@ -205,7 +205,7 @@ int main(void) {
     }
     for (i = 0; i < STREAMS; i++) {
         const uint8_t answer = ahz_state_fresh(&states[i], setups[i]);
-        if (answer != AHZ_DONE) return refused("ahz_fresh_v3", answer);
+        if (answer != AHZ_DONE) return refused("ahz_fresh_v4", answer);
     }
     for (i = 0; i < JOURNAL_FRAMES; i++) {
         j[i] = journal(i);

@@ -25,8 +25,8 @@
  * From outside the archive needs memcpy and memset, and nothing else. Only ahz_tape_v3 uses them.
  *
  * Stack. A call takes at most AHZ_STACK octets, and ahz_tape_v3 at most AHZ_TAPE_STACK; tests/c/stack.c holds both targets to it. In this
- * version it finds 54,320 octets on aarch64 and 54,120 on x86_64 for ahz_tape_v3, what its memcpy and memset take among them, and at most
- * 128 for any other call. The bounds are the archive's own: what memcpy and memset take comes on top, and what the dynamic linker takes
+ * version it finds, on aarch64, 54,624 octets for ahz_tape_v3, what its memcpy and memset take among them, 352 for ahz_numbered and at most
+ * 192 for any other call. The bounds are the archive's own: what memcpy and memset take comes on top, and what the dynamic linker takes
  * where it looks these two up at their first call. On x86_64 the code also writes below its stack pointer, into the red zone of the System
  * V convention.
  *
@@ -57,25 +57,35 @@
  *   Names: ahz_check_setup, ahz_fresh and ahz_tape became ahz_check_setup_v2, ahz_fresh_v2 and ahz_tape_v2, and AHZ_R_TAKEN became
  *     AHZ_R_TAKEN_OR_USE. The use comes after taken: as an argument, in ahz_setup_t, in the words of a state, of which there were 21, and
  *     in the setup of a tape, which has 16 octets.
- *   Tapes of version 1: one that was good is a fault, 16, or 24 where it ends behind its setup.
+ *   Tapes of version 1: one that was good is a fault: 24 where it ends behind its setup, and 16 with a history length above 2. One of 2 is
+ *     read as one of 512: 17 with a timeout above 14,062 ms; 18 where the rate modulo 256 is above 39; 19 with a difference below
+ *     33,554,432 or above 150,994,943. With none of these it is taken for a tape of today and misread: give it its use.
  *   Sources: a setup whose initialiser names its fields, and not the use, is of sequence use and does what it did. One that lists its
  *     values without names does not compile or, where C lets it, has its history length for a use and is refused (27), since no history
  *     length is below 2. One that is filled field by field has to be given a use.
  *
  * From 2 to 3 a state got a ninth counter, before-first, and keeps for it where in the window the first packet's place stands.
- *   Names: ahz_fresh_v2 and ahz_tape_v2 are now ahz_fresh_v3 and ahz_tape_v3, with the arguments that they had. A state has 24 words and
- *     had 22: AHZ_S_FIRST comes after the marks, and AHZ_S_BEFORE_FIRST after the other counters, as before_first in ahz_counters_t.
+ *   Names: ahz_fresh_v2 and ahz_tape_v2 became ahz_fresh_v3 and ahz_tape_v3, with the arguments that they had. A state had 24 words, and 22
+ *     before: AHZ_S_FIRST comes after the marks, and AHZ_S_BEFORE_FIRST after the other counters, as before_first in ahz_counters_t.
  *   Tapes of version 2 run as they did; the output's last line ends with ` before-first=N`, and AHZ_TAPE_OUTPUT is 34 octets larger.
  *   Sources: one that makes the typed calls needs no change, and one that makes the others the new names of the two. Words have to be read
  *     by AHZ_S_..: from AHZ_S_TAKE_ANY on they stand elsewhere, and a bare number reads another word. With 22 words in place of
- *     AHZ_S_WORDS a fresh state is refused by 8 and a step by 14. */
-#define AHZ_VERSION_MAJOR 3
+ *     AHZ_S_WORDS a fresh state is refused by 8 and a step by 14.
+ *
+ * From 3 to 4 the longest history length is 512, and was 64: the marks of a state are AHZ_MARK_WORDS words, and were one.
+ *   Names: ahz_fresh_v3 is now ahz_fresh_v4, with the arguments that it had. A state has 31 words and had 24: from AHZ_S_FIRST on they
+ *     stand 7 later. ahz_state_marks, which gave the one word, is gone; ahz_state_mark gives one mark. ahz_check_setup_v2 and ahz_tape_v3
+ *     keep their names: history lengths from 65 to 512 are no longer refused there, and that is all.
+ *   Tapes of versions 2 and 3 run as they did, but for those of such a history length: they were a fault, 16, and run.
+ *   Sources: one that makes the typed calls needs no change where it does not read the marks, and one that makes the others the new name.
+ *     Words have to be read by AHZ_S_.., as before. With 24 words in place of AHZ_S_WORDS a fresh state is refused by 8, a step by 14. */
+#define AHZ_VERSION_MAJOR 4
 #define AHZ_VERSION_MINOR 0
 #define AHZ_VERSION (AHZ_VERSION_MAJOR * 65536u + AHZ_VERSION_MINOR)
 
 /* Octets of stack that are enough for ahz_tape_v3, and for every other call. */
-#define AHZ_TAPE_STACK 54784
-#define AHZ_STACK 256
+#define AHZ_TAPE_STACK 55296
+#define AHZ_STACK 512
 
 /* Before each call and typed form that has an answer: a program that does not look at it is warned. With GCC before C23 and C++17 a cast to
  * void does not silence the warning. A program that wants none defines AHZ_USE_ANSWER as nothing before it includes this header. */
@@ -115,7 +125,7 @@ enum {
     AHZ_R_ENTRY_257 = 13,      /* table: a 257th entry */
     AHZ_R_STATE = 14,          /* the words hold no state of this format, or one that is not sound */
     AHZ_R_RULE = 15,           /* setup: rule not 0 or 1 */
-    AHZ_R_HISTORY = 16,        /* setup: history length not 2 to 64 */
+    AHZ_R_HISTORY = 16,        /* setup: history length not 2 to 512 */
     AHZ_R_MILLISECONDS = 17,   /* setup: timeout not 1 to 3,600,000 ms */
     AHZ_R_RATE = 18,           /* setup: ticks per second not 1 to 10,000 */
     AHZ_R_PATHS = 19,          /* setup: paths not 2 to 8 */
@@ -242,7 +252,7 @@ enum {
     AHZ_USE_SEQUENCE = 0,      /* for paths that are merged: only a packet that passes restarts the timer */
     AHZ_USE_INDIVIDUAL = 1,    /* for one path alone: a discarded packet restarts it too, as the repeats of a stuck sender do */
     AHZ_HISTORY_LEAST = 2,
-    AHZ_HISTORY_MOST = 64,
+    AHZ_HISTORY_MOST = 512,
     AHZ_MILLISECONDS_LEAST = 1,
     AHZ_MILLISECONDS_MOST = 3600000,
     AHZ_RATE_LEAST = 1,
@@ -255,14 +265,14 @@ enum {
 AHZ_USE_ANSWER uint64_t ahz_ticks(uint32_t milliseconds, uint16_t rate);
 
 /* Checks a setup: rule 0 vector or 1 match; taken 1 where packets without a number are taken, else 0; use 0 sequence or 1 individual;
- * history 2 to 64; milliseconds 1 to 3,600,000; rate, ticks per second, 1 to 10,000; paths 2 to 8; difference, the latent difference, any.
+ * history 2 to 512; milliseconds 1 to 3,600,000; rate, ticks per second, 1 to 10,000; paths 2 to 8; difference, the latent difference, any.
  * A good one: 0. Refusals, in this order: 15, 27 for taken, 27 for the use, 16, 17, 18, 19. */
 AHZ_USE_ANSWER uint8_t ahz_check_setup_v2(uint8_t rule, uint8_t taken, uint8_t use, uint16_t history, uint32_t milliseconds, uint16_t rate,
                                           uint8_t paths, uint32_t difference);
 
-/* The first word of a state: "AHZ", and 3. It changes whenever the words of a state or their meaning change, so that a state that another
+/* The first word of a state: "AHZ", and 4. It changes whenever the words of a state or their meaning change, so that a state that another
  * version stored, or a machine of the other byte order, is refused (14) and never misread. */
-#define AHZ_STATE_FORMAT 0x41485A03
+#define AHZ_STATE_FORMAT 0x41485A04
 
 /* The words of a state. A state that a call wrote may be kept, copied or stored by its words. It is the first AHZ_S_WORDS words of what is
  * lent; later ones are neither looked at nor changed. To check words that were stored, call ahz_latent_test: it changes nothing and refuses
@@ -279,27 +289,29 @@ enum {
     AHZ_S_PATHS = 7,           /* below 2^8 */
     AHZ_S_DIFFERENCE = 8,      /* below 2^32 */
     AHZ_S_NEWEST = 9,          /* the newest number, below 2^16 */
-    AHZ_S_MARKS = 10,          /* bit k is mark k: the number k below the newest has passed; mark 0 is the newest */
-    AHZ_S_FIRST = 11,          /* 1 + k: the first packet's place is that of mark k; 0: none of the window's places is */
-    AHZ_S_TAKE_ANY = 12,       /* 0 or 1 */
-    AHZ_S_LEFT = 13,           /* ticks left */
-    AHZ_S_PASSED = 14,         /* the nine counters; they wrap */
-    AHZ_S_DISCARDED = 15,
-    AHZ_S_ORDER = 16,
-    AHZ_S_ROGUE = 17,
-    AHZ_S_LOST = 18,
-    AHZ_S_TAGLESS = 19,
-    AHZ_S_RESETS = 20,
-    AHZ_S_LATENT_RESETS = 21,
-    AHZ_S_BEFORE_FIRST = 22,   /* those of lost that lie below the first packet's place */
-    AHZ_S_BASE = 23,           /* the latent base, modulo 2^64 */
-    AHZ_S_WORDS = 24
+    AHZ_S_MARKS = 10,          /* AHZ_MARK_WORDS words: mark k is bit k % 64 of the word AHZ_S_MARKS + k / 64, and set where the number
+                                * k below the newest has passed; mark 0 is the newest */
+    AHZ_S_FIRST = 18,          /* 1 + k: the first packet's place is that of mark k; 0: none of the window's places is */
+    AHZ_S_TAKE_ANY = 19,       /* 0 or 1 */
+    AHZ_S_LEFT = 20,           /* ticks left */
+    AHZ_S_PASSED = 21,         /* the nine counters; they wrap */
+    AHZ_S_DISCARDED = 22,
+    AHZ_S_ORDER = 23,
+    AHZ_S_ROGUE = 24,
+    AHZ_S_LOST = 25,
+    AHZ_S_TAGLESS = 26,
+    AHZ_S_RESETS = 27,
+    AHZ_S_LATENT_RESETS = 28,
+    AHZ_S_BEFORE_FIRST = 29,   /* those of lost that lie below the first packet's place */
+    AHZ_S_BASE = 30,           /* the latent base, modulo 2^64 */
+    AHZ_S_WORDS = 31,
+    AHZ_MARK_WORDS = 8         /* of them the marks, a bit for each place of the longest history */
 };
 
 /* Writes a fresh state of that setup to the first AHZ_S_WORDS words of state; later ones stay. Answers 0. Fresh: newest 65,535, no mark,
  * no first place, take-any, no ticks left, counters and base 0.
  * Refusals, in this order: 15, 27, 16, 17, 18, 19 as ahz_check_setup_v2; 8 where state_words is less than AHZ_S_WORDS. */
-AHZ_USE_ANSWER uint8_t ahz_fresh_v3(uint8_t rule, uint8_t taken, uint8_t use, uint16_t history, uint32_t milliseconds, uint16_t rate,
+AHZ_USE_ANSWER uint8_t ahz_fresh_v4(uint8_t rule, uint8_t taken, uint8_t use, uint16_t history, uint32_t milliseconds, uint16_t rate,
                                     uint8_t paths, uint32_t difference, uint64_t *state, size_t state_words);
 
 /* Each of these refuses by 14 alone: state_words is less than AHZ_S_WORDS, the first word is not AHZ_STATE_FORMAT, a word is one that its
@@ -536,7 +548,7 @@ AHZ_USE_ANSWER AHZ_INLINE const char *ahz_refusal_sentence(uint8_t refusal) {
     case AHZ_R_ENTRY_257: return "257th table entry";
     case AHZ_R_STATE: return "no state of this format, or one that is not sound";
     case AHZ_R_RULE: return "rule not 0 or 1";
-    case AHZ_R_HISTORY: return "history length not 2 to 64";
+    case AHZ_R_HISTORY: return "history length not 2 to 512";
     case AHZ_R_MILLISECONDS: return "timeout not 1 to 3,600,000 ms";
     case AHZ_R_RATE: return "ticks per second not 1 to 10,000";
     case AHZ_R_PATHS: return "paths not 2 to 8";
@@ -631,9 +643,9 @@ AHZ_USE_ANSWER AHZ_INLINE uint8_t ahz_setup_check(ahz_setup_t setup) {
                               setup.difference);
 }
 
-/* ahz_fresh_v3. */
+/* ahz_fresh_v4. */
 AHZ_USE_ANSWER AHZ_INLINE uint8_t ahz_state_fresh(ahz_state_t *state, ahz_setup_t setup) {
-    return ahz_fresh_v3(setup.rule, setup.taken, setup.use, setup.history, setup.timeout.ms, setup.rate.per_second, setup.paths,
+    return ahz_fresh_v4(setup.rule, setup.taken, setup.use, setup.history, setup.timeout.ms, setup.rate.per_second, setup.paths,
                         setup.difference, state->words, AHZ_S_WORDS);
 }
 
@@ -710,9 +722,9 @@ AHZ_USE_ANSWER AHZ_INLINE int ahz_state_newest(const ahz_state_t *state, uint16_
     return 1;
 }
 
-/* Its marks, bit k for mark k: */
-AHZ_USE_ANSWER AHZ_INLINE uint64_t ahz_state_marks(const ahz_state_t *state) {
-    return state->words[AHZ_S_MARKS];
+/* Mark k: 1 where the number k below the newest has passed, else 0. There is none from the history length on, under take-any or match: */
+AHZ_USE_ANSWER AHZ_INLINE int ahz_state_mark(const ahz_state_t *state, size_t k) {
+    return k < AHZ_HISTORY_MOST && (state->words[AHZ_S_MARKS + k / 64] >> k % 64 & 1) != 0;
 }
 
 /* 1, and in below how far below the newest the first packet's place stands, which is 0 while it is the newest. Or 0, and below stays, where

@@ -19,7 +19,7 @@ REAL(ahz_generate);
 REAL(ahz_generator_reset);
 REAL(ahz_ticks);
 REAL(ahz_check_setup_v2);
-REAL(ahz_fresh_v3);
+REAL(ahz_fresh_v4);
 REAL(ahz_numbered);
 REAL(ahz_tagless);
 REAL(ahz_tick);
@@ -181,20 +181,30 @@ uint8_t ahz_check_setup_v2(uint8_t rule, uint8_t taken, uint8_t use, uint16_t hi
                            uint32_t difference)
 {
     const uint8_t checked = (fault("use-2-checked") && use == 2) || fault("use-checked-last") ? AHZ_USE_SEQUENCE : use;
-    uint8_t answer = real_ahz_check_setup_v2(rule, taken, checked, history, milliseconds, rate, paths, difference);
+    uint8_t answer;
 
+    if (fault("513-checked") && history == 513)
+        history = 512;
+    if (fault("512-refused") && history == 512)
+        history = 513;
+    answer = real_ahz_check_setup_v2(rule, taken, checked, history, milliseconds, rate, paths, difference);
     return fault("use-checked-last") && answer == AHZ_DONE && use > AHZ_USE_INDIVIDUAL ? AHZ_R_TAKEN_OR_USE : answer;
 }
 
-uint8_t ahz_fresh_v3(uint8_t rule, uint8_t taken, uint8_t use, uint16_t history, uint32_t milliseconds, uint16_t rate, uint8_t paths,
+uint8_t ahz_fresh_v4(uint8_t rule, uint8_t taken, uint8_t use, uint16_t history, uint32_t milliseconds, uint16_t rate, uint8_t paths,
                      uint32_t difference, uint64_t *state, size_t state_words)
 {
-    const int two = fault("use-2-fresh") && use == 2;
-    uint8_t answer = real_ahz_fresh_v3(rule, taken, two ? AHZ_USE_SEQUENCE : use, history, milliseconds, rate, paths, difference, state,
-                                       state_words);
+    const int two = fault("use-2-fresh") && use == 2, longer = fault("513-fresh") && history == 513;
+    const uint64_t lent = state_words >= AHZ_S_WORDS ? state[AHZ_S_MARKS + 7] : 0;
+    uint8_t answer = real_ahz_fresh_v4(rule, taken, two ? AHZ_USE_SEQUENCE : use, longer ? 512 : history, milliseconds, rate, paths,
+                                       difference, state, state_words);
 
     if (two && answer == AHZ_DONE)
         state[AHZ_S_USE] = use;
+    if (longer && answer == AHZ_DONE)
+        state[AHZ_S_HISTORY] = history;
+    if (fault("fresh-word-stays") && answer == AHZ_DONE)
+        state[AHZ_S_MARKS + 7] = lent;
     if (fault("short-first") && state_words < AHZ_S_WORDS)
         return AHZ_R_OUTPUT_SHORT;
     if (fault("short-as-unsound") && answer == AHZ_R_OUTPUT_SHORT)
@@ -202,12 +212,36 @@ uint8_t ahz_fresh_v3(uint8_t rule, uint8_t taken, uint8_t use, uint16_t history,
     return answer;
 }
 
+static uint64_t mark(const uint64_t *state, uint64_t k)
+{
+    return k < AHZ_HISTORY_MOST ? state[AHZ_S_MARKS + k / 64] >> k % 64 & 1 : 0;
+}
+
+/* How many marks are set from one on, up to another. */
+static uint64_t ones(const uint64_t *state, uint64_t from, uint64_t to)
+{
+    uint64_t count = 0;
+
+    for (uint64_t k = from; k < to; k++)
+        count += mark(state, k);
+    return count;
+}
+
+/* Marks 1 to h - 1 of a state as those of another moved by d, one by one, and mark 0 set. */
+static void move(uint64_t *state, const uint64_t *before, uint64_t d, uint64_t h)
+{
+    memset(state + AHZ_S_MARKS, 0, AHZ_MARK_WORDS * sizeof *state);
+    state[AHZ_S_MARKS] = 1;
+    for (uint64_t k = d; k < h; k++)
+        state[AHZ_S_MARKS + k / 64] |= mark(before, k - d) << k % 64;
+}
+
 /* A slide by d also moves the first packet's place on, until it leaves, and counts those of the lost places that lie below it. Each fault
  * is a mistake in what is counted, or in where the place then stands. */
 static void slide_first(uint64_t *state, const uint64_t *before, uint64_t d)
 {
-    const uint64_t h = before[AHZ_S_HISTORY], marks = before[AHZ_S_MARKS], first = before[AHZ_S_FIRST];
-    const uint64_t more = state[AHZ_S_BEFORE_FIRST] - before[AHZ_S_BEFORE_FIRST];
+    const uint64_t h = before[AHZ_S_HISTORY], first = before[AHZ_S_FIRST];
+    const uint64_t more = state[AHZ_S_BEFORE_FIRST] - before[AHZ_S_BEFORE_FIRST], next = (first + 63) / 64 * 64;
 
     if (fault("before-all"))
         state[AHZ_S_BEFORE_FIRST] += state[AHZ_S_LOST] - before[AHZ_S_LOST] - more;
@@ -221,52 +255,82 @@ static void slide_first(uint64_t *state, const uint64_t *before, uint64_t d)
         state[AHZ_S_LOST] -= more;
     if (first == 0)
         return;
-    /* The place has the mark first - 1, and leaves where that is h - d or above. */
+    /* The place has the mark first - 1, and leaves where that is h - d or above. The next word begins with the mark next. */
     if (fault("before-late-too"))
         state[AHZ_S_BEFORE_FIRST] += (first > h - d ? h - first : d) - more;
     if (fault("before-at-first"))
         state[AHZ_S_BEFORE_FIRST] += first > h - d;
     if (fault("before-above-first"))
-        state[AHZ_S_BEFORE_FIRST] += first > h - d + 1 && !(marks >> (first - 2) & 1);
+        state[AHZ_S_BEFORE_FIRST] += first > h - d + 1 && !mark(before, first - 2);
     if (fault("before-next-missed"))
-        state[AHZ_S_BEFORE_FIRST] -= first >= h - d && first < h && !(marks >> first & 1);
+        state[AHZ_S_BEFORE_FIRST] -= first >= h - d && first < h && !mark(before, first);
+    if (fault("before-first-word") && first > h - d && h > next)
+        state[AHZ_S_BEFORE_FIRST] -= h - next - ones(before, next, h);
     if (fault("first-stands"))
         state[AHZ_S_FIRST] = first;
     if (fault("first-stays"))
         state[AHZ_S_FIRST] = first + d;
     if (fault("first-leaves-early") && state[AHZ_S_FIRST] == h)
         state[AHZ_S_FIRST] = 0;
+    if (fault("first-8-bits"))
+        state[AHZ_S_FIRST] = (uint8_t)state[AHZ_S_FIRST];
+}
+
+/* Marks of a history of more words moved by d. Each fault is a mistake at a border between two of them, or in which word goes where. */
+static void slide_words(uint64_t *state, const uint64_t *before, uint64_t d)
+{
+    const uint64_t h = before[AHZ_S_HISTORY], last = (h - 1) / 64, whole = d / 64;
+    uint64_t *marks = state + AHZ_S_MARKS;
+
+    /* The lowest bits of a word are carried there from the word below. */
+    if (fault("carry-lost-word-1") && whole == 0)
+        marks[1] &= UINT64_MAX << d;
+    if (fault("carry-lost-at-last") && whole < last)
+        marks[last] &= UINT64_MAX << d % 64;
+    if (fault("words-wrong-way") && whole > 0) {
+        for (uint64_t word = 0; word <= last; word++)
+            marks[word] = word + whole <= last ? before[AHZ_S_MARKS + word + whole] : 0;
+        marks[0] |= 1;
+    }
+    if (fault("words-not-moved") && whole > 0)
+        move(state, before, d % 64, h);
+    if (fault("border-mark-lost") && (h - d) % 64 == 63)
+        state[AHZ_S_LOST] += mark(before, h - d);
+    /* The highest word whose marks all leave. */
+    if (fault("word-not-counted") && h / 64 > (h - d + 63) / 64)
+        state[AHZ_S_LOST] -= 64 - (uint64_t)__builtin_popcountll(before[AHZ_S_MARKS + h / 64 - 1]);
+    if (fault("lost-of-last-word") && last * 64 > h - d)
+        state[AHZ_S_LOST] -= last * 64 - (h - d) - ones(before, h - d, last * 64);
 }
 
 /* A packet that passed may have slid the window by d: the marks from h - d on left, and those that were clear are lost. Each fault is a
  * mistake in the shifts, the mask or the count by which that can be done at once. */
 static void slide(uint64_t *state, const uint64_t *before, uint16_t number)
 {
-    const uint64_t d = (uint16_t)(number - before[AHZ_S_NEWEST]), h = before[AHZ_S_HISTORY];
-    const uint64_t marks = before[AHZ_S_MARKS], lost = before[AHZ_S_LOST];
-    uint64_t leaving;
+    const uint64_t d = (uint16_t)(number - before[AHZ_S_NEWEST]), h = before[AHZ_S_HISTORY], lost = before[AHZ_S_LOST];
 
     if (before[AHZ_S_RULE] != AHZ_RULE_VECTOR || before[AHZ_S_TAKE_ANY] != 0 || d == 0 || d >= h)
         return;
-    leaving = marks >> (h - d);
     if (fault("ones-as-lost"))
-        state[AHZ_S_LOST] = lost + (uint64_t)__builtin_popcountll(leaving);
+        state[AHZ_S_LOST] = lost + ones(before, h - d, h);
     if (fault("ones-in-32-bits"))
-        state[AHZ_S_LOST] = lost + d - (uint64_t)__builtin_popcount((uint32_t)leaving);
+        state[AHZ_S_LOST] = lost + d - ones(before, h - d, d < 32 ? h : h - d + 32);
     if (fault("lost-stays-d"))
         state[AHZ_S_LOST] = lost + d;
     if (fault("mask-too-wide"))
-        state[AHZ_S_LOST] += !(marks >> (h - d - 1) & 1);
+        state[AHZ_S_LOST] += !mark(before, h - d - 1);
     if (fault("mask-too-narrow"))
-        state[AHZ_S_LOST] -= !(leaving & 1);
+        state[AHZ_S_LOST] -= !mark(before, h - d);
     if (fault("last-shift-off") && d == h - 1)
-        state[AHZ_S_LOST] = lost + d - (uint64_t)__builtin_popcountll(leaving >> 1);
+        state[AHZ_S_LOST] += mark(before, 1);
     if (fault("shift-by-d-less-1"))
-        state[AHZ_S_MARKS] = (marks << (d - 1) & UINT64_MAX >> (64 - h)) | 1;
+        move(state, before, d - 1, h);
     if (fault("marks-not-cut"))
-        state[AHZ_S_MARKS] = marks << d | 1;
+        move(state, before, d, AHZ_HISTORY_MOST);
     if (fault("mask-of-64-is-0") && h == 64)
         state[AHZ_S_MARKS] = 1;
+    if (h > 64)
+        slide_words(state, before, d);
     slide_first(state, before, d);
 }
 
@@ -277,10 +341,43 @@ static void first_let_through(uint64_t *state)
 
     if (fault("first-16-bits"))
         state[AHZ_S_FIRST] = (uint16_t)first;
-    if ((fault("first-unmarked") && first - 1 < 64 && !(state[AHZ_S_MARKS] >> (first - 1) & 1)) ||
+    if ((fault("first-unmarked") && first - 1 < AHZ_HISTORY_MOST && !mark(state, first - 1)) ||
         (fault("first-beyond") && first > state[AHZ_S_HISTORY]) || (fault("first-at-take-any") && state[AHZ_S_TAKE_ANY] == 1) ||
         (fault("first-at-match") && state[AHZ_S_RULE] == AHZ_RULE_MATCH))
         state[AHZ_S_FIRST] = 0;
+}
+
+/* Marks that have to be refused are not looked at: all from H on, or those of the words behind that of the last mark. */
+static void marks_let_through(uint64_t *state)
+{
+    const uint64_t h = state[AHZ_S_HISTORY], behind = (h + 63) / 64 * 64;
+    const uint64_t from = fault("mark-beyond") ? h : fault("word-beyond") ? behind : AHZ_HISTORY_MOST;
+
+    for (uint64_t k = from; k < AHZ_HISTORY_MOST; k++)
+        state[AHZ_S_MARKS + k / 64] &= ~(UINT64_C(1) << k % 64);
+}
+
+/* A packet that came late has the mark k, which was clear and is set. Each fault looks at another word, or sets its mark there. */
+static uint8_t late(uint64_t *state, const uint64_t *before, uint64_t k)
+{
+    const uint64_t full = state[AHZ_S_LEFT];
+
+    if (fault("mark-64-as-0") && k == 64) {
+        memcpy(state, before, AHZ_S_WORDS * sizeof *state);
+        state[AHZ_S_DISCARDED] += 1;
+        if (state[AHZ_S_USE] == AHZ_USE_INDIVIDUAL)
+            state[AHZ_S_LEFT] = full;
+        return AHZ_DISCARD;
+    }
+    if (fault("late-in-word-0")) {
+        state[AHZ_S_MARKS + k / 64] = before[AHZ_S_MARKS + k / 64];
+        state[AHZ_S_MARKS] |= UINT64_C(1) << k % 64;
+    }
+    if (fault("mark-forgotten"))
+        memcpy(state + AHZ_S_MARKS, before + AHZ_S_MARKS, AHZ_MARK_WORDS * sizeof *state);
+    if (fault("late-as-first") && state[AHZ_S_FIRST] != 0 && k >= state[AHZ_S_FIRST])
+        state[AHZ_S_FIRST] = k + 1;
+    return AHZ_PASS;
 }
 
 /* A packet that was discarded has restarted the timer in individual use, and left it alone in sequence use. Each fault is a mistake in
@@ -312,14 +409,16 @@ uint8_t ahz_numbered(uint64_t *state, size_t state_words, uint16_t number)
     memcpy(before, state, sizeof before);
     if (fault("format-ignored"))
         state[AHZ_S_FORMAT] = AHZ_STATE_FORMAT;
-    if (fault("mark-beyond") && state[AHZ_S_HISTORY] < 64)
-        state[AHZ_S_MARKS] &= (UINT64_C(1) << state[AHZ_S_HISTORY]) - 1;
     if (fault("use-2-in-a-state") && state[AHZ_S_USE] == 2)
         state[AHZ_S_USE] = AHZ_USE_SEQUENCE;
+    if (fault("513-in-a-state") && state[AHZ_S_HISTORY] == 513)
+        state[AHZ_S_HISTORY] = 512;
+    marks_let_through(state);
     first_let_through(state);
     answer = real_ahz_numbered(state, state_words, number);
     state[AHZ_S_FORMAT] = before[AHZ_S_FORMAT];
     state[AHZ_S_USE] = before[AHZ_S_USE];
+    state[AHZ_S_HISTORY] = before[AHZ_S_HISTORY];
     if (answer == AHZ_R_STATE)
         memcpy(state, before, sizeof before);
     if (answer == AHZ_DISCARD)
@@ -330,14 +429,14 @@ uint8_t ahz_numbered(uint64_t *state, size_t state_words, uint16_t number)
         state[AHZ_S_PASSED] = UINT64_MAX;
     if (fault("lost-once") && state[AHZ_S_LOST] - before[AHZ_S_LOST] > 1)
         state[AHZ_S_LOST] = before[AHZ_S_LOST] + 1;
-    if (fault("full-window") && state[AHZ_S_MARKS] == UINT64_MAX)
+    if (fault("full-window") && state[AHZ_S_HISTORY] == 64 && state[AHZ_S_MARKS] == UINT64_MAX)
         state[AHZ_S_MARKS] >>= 1;
+    if (fault("full-last-word") && state[AHZ_S_MARKS + 7] == UINT64_MAX)
+        state[AHZ_S_MARKS + 7] >>= 1;
     if (fault("full-ticks-down") && state[AHZ_S_MILLISECONDS] * state[AHZ_S_RATE] > 1000000)
         state[AHZ_S_LEFT] = state[AHZ_S_MILLISECONDS] * state[AHZ_S_RATE] / 1000;
-    if (fault("mark-forgotten") && state[AHZ_S_NEWEST] != number)
-        state[AHZ_S_MARKS] = before[AHZ_S_MARKS];
-    if (fault("late-as-first") && state[AHZ_S_FIRST] != 0 && (uint16_t)(state[AHZ_S_NEWEST] - number) >= state[AHZ_S_FIRST])
-        state[AHZ_S_FIRST] = (uint16_t)(state[AHZ_S_NEWEST] - number) + 1u;
+    if (state[AHZ_S_NEWEST] != number)
+        return late(state, before, (uint16_t)(state[AHZ_S_NEWEST] - number));
     if (fault("first-not-kept") && before[AHZ_S_TAKE_ANY] == 1)
         state[AHZ_S_FIRST] = 0;
     if (fault("match-keeps-first") && state[AHZ_S_RULE] == AHZ_RULE_MATCH)
@@ -366,6 +465,7 @@ uint8_t ahz_tick(uint64_t *state, size_t state_words)
 {
     const int takes_any = state_words >= AHZ_S_WORDS && state[AHZ_S_TAKE_ANY] == 1;
     const uint64_t first = state_words >= AHZ_S_WORDS ? state[AHZ_S_FIRST] : 0;
+    const uint64_t last_word = state_words >= AHZ_S_WORDS ? state[AHZ_S_MARKS + 7] : 0;
     uint8_t answer;
 
     if (fault("longer-refused") && state_words > AHZ_S_WORDS)
@@ -377,12 +477,15 @@ uint8_t ahz_tick(uint64_t *state, size_t state_words)
         state[AHZ_S_RESETS] -= 1;
     if (fault("first-after-tick") && answer == AHZ_RESET)
         state[AHZ_S_FIRST] = first;
+    if (fault("word-after-tick") && answer == AHZ_RESET)
+        state[AHZ_S_MARKS + 7] = last_word;
     return answer;
 }
 
 uint8_t ahz_reset(uint64_t *state, size_t state_words)
 {
     const uint64_t first = state_words >= AHZ_S_WORDS ? state[AHZ_S_FIRST] : 0;
+    const uint64_t second_word = state_words >= AHZ_S_WORDS ? state[AHZ_S_MARKS + 1] : 0;
     uint8_t answer;
 
     if (fault("later-word") && state_words > AHZ_S_WORDS)
@@ -390,6 +493,8 @@ uint8_t ahz_reset(uint64_t *state, size_t state_words)
     answer = real_ahz_reset(state, state_words);
     if (fault("first-after-reset") && answer == AHZ_DONE)
         state[AHZ_S_FIRST] = first;
+    if (fault("word-after-reset") && answer == AHZ_DONE)
+        state[AHZ_S_MARKS + 1] = second_word;
     if (fault("before-cleared") && answer == AHZ_DONE)
         state[AHZ_S_BEFORE_FIRST] = 0;
     return answer;
@@ -459,6 +564,18 @@ static size_t misread(const uint8_t *tape, size_t octets, uint8_t *other)
     }
     if (fault("use-from-taken")) {
         other[3] = other[2];
+        return octets;
+    }
+    if (fault("tape-history-513") && tape[4] == 2 && tape[5] == 1) {
+        other[5] = 0;
+        return octets;
+    }
+    if (fault("tape-history-512") && tape[4] == 2 && tape[5] == 0) {
+        other[5] = 1;
+        return octets;
+    }
+    if (fault("history-8-bits")) {
+        other[4] = 0;
         return octets;
     }
     if (fault("setup-of-15-octets") && tape[3] == 0 && tape[4] >= AHZ_HISTORY_LEAST) {

@@ -291,7 +291,7 @@ pub fn fresh(setup: SetupNumbers, state: &[u64]) -> (u8, Vec<u64>) {
     let (rule, taken, usage, history, ms, rate, paths, difference) = setup;
     let words = state.len();
     steps(state, |at| unsafe {
-        sys::ahz_fresh_v3(rule, taken, usage, history, ms, rate, paths, difference, at, words)
+        sys::ahz_fresh_v4(rule, taken, usage, history, ms, rate, paths, difference, at, words)
     })
 }
 

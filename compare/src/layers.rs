@@ -7,8 +7,8 @@
 use crate::plain::cards::{Calibration, Card, Volts};
 use crate::plain::frame::Header;
 use crate::plain::recovery::{
-    full_ticks, Counters, Generator, Milliseconds, Setup, State, Ticks, Verdict, INDIVIDUAL, MATCH,
-    SEQUENCE, VECTOR,
+    full_ticks, Counters, Generator, Marks, Milliseconds, Setup, State, Ticks, Verdict, INDIVIDUAL,
+    MATCH, SEQUENCE, VECTOR,
 };
 use crate::words::{self, HEADER, STATE};
 use crate::{guarded, plain};
@@ -373,7 +373,7 @@ fn held(state: &safe::State) -> State {
     State {
         setup: untyped(&state.setup()),
         newest: state.newest().unwrap_or(65_535),
-        marks: state.marks(),
+        marks: Marks(state.marks()),
         first: state.first_below(),
         take_any: state.take_any(),
         ticks_left: Ticks(state.ticks_left().count()),

@@ -5,10 +5,10 @@ use crate::plain::frame::Header;
 use crate::plain::recovery::{Counters, Setup, State};
 
 pub const HEADER: usize = 8;
-pub const STATE: usize = 24;
+pub const STATE: usize = 31;
 
-/// "AHZ" and 3.
-pub const FORMAT: u64 = 0x4148_5A03;
+/// "AHZ" and 4.
+pub const FORMAT: u64 = 0x4148_5A04;
 
 /// A setup's eight numbers.
 pub type SetupNumbers = (u8, u8, u8, u16, u32, u16, u8, u32);
@@ -50,7 +50,8 @@ pub fn of_state(state: &State) -> [u64; STATE] {
         latent_resets,
         before_first,
     } = state.counters;
-    [
+    let mut words = [0; STATE];
+    words[..10].copy_from_slice(&[
         FORMAT,
         rule.into(),
         taken.into(),
@@ -61,7 +62,9 @@ pub fn of_state(state: &State) -> [u64; STATE] {
         paths.into(),
         difference.into(),
         state.newest.into(),
-        state.marks,
+    ]);
+    words[10..18].copy_from_slice(&state.marks.0);
+    words[18..].copy_from_slice(&[
         state.first.map_or(0, |mark| u64::from(mark) + 1),
         state.take_any.into(),
         state.ticks_left.0,
@@ -75,5 +78,6 @@ pub fn of_state(state: &State) -> [u64; STATE] {
         latent_resets,
         before_first,
         state.base as u64,
-    ]
+    ]);
+    words
 }

@@ -5,12 +5,17 @@ mod common;
 
 use ahozurime::recovery as safe;
 use ahozurime::Refusal;
-use ahozurime_sys::{AHZ_LATENT_ERROR, AHZ_LATENT_OK, AHZ_S_BEFORE_FIRST, AHZ_S_FIRST, AHZ_S_USE};
+use ahozurime_sys::{
+    AHZ_LATENT_ERROR, AHZ_LATENT_OK, AHZ_MARK_WORDS, AHZ_S_BEFORE_FIRST, AHZ_S_FIRST, AHZ_S_MARKS,
+    AHZ_S_TAKE_ANY, AHZ_S_USE,
+};
 use common::report;
 use compare::layers::{
     self, check_setup, event, events, fresh_into, raw_event, Event, Kept, RULES, USES,
 };
-use compare::plain::recovery::{Counters, Milliseconds, Setup, State, Ticks, LONGEST_HISTORY};
+use compare::plain::recovery::{
+    Counters, Marks, Milliseconds, Setup, State, Ticks, LONGEST_HISTORY,
+};
 use compare::random::{Random, SEED};
 use compare::{guarded, words};
 
@@ -21,13 +26,14 @@ fn within(random: &mut Random, low: u64, high: u64) -> u64 {
     low + random.pick(&[0, high - low, any, smaller])
 }
 
-/// A setup anywhere in its ranges.
+/// A setup anywhere in its ranges; every other has its marks in one word.
 fn random_setup(random: &mut Random) -> Setup {
+    let longest = random.pick(&[64, LONGEST_HISTORY]);
     Setup {
         rule: random.pick(&[0, 0, 1]),
         taken: random.pick(&[0, 1]),
         usage: random.pick(&USES),
-        history: random.between(2, 64) as u16,
+        history: random.between(2, longest.into()) as u16,
         timeout: Milliseconds(within(random, 1, 3_600_000) as u32),
         ticks_per_second: within(random, 1, 10_000) as u16,
         paths: random.between(2, 8) as u8,
@@ -44,7 +50,7 @@ fn setups_at_every_bound() {
         &[0, 1, 2, 255],
         &[0, 1, 2, 255],
         &[0, 1, 2, 255],
-        &[0, 1, 2, 3, 63, 64, 65, 65_535],
+        &[0, 1, 2, 3, 64, 65, 511, 512, 513, 65_535],
         &[0, 1, 3_600_000, 3_600_001, u32::MAX],
         &[0, 1, 10_000, 10_001, 65_535],
         &[0, 1, 2, 8, 9, 255],
@@ -87,13 +93,13 @@ fn setups_of_every_value() {
         let timeout = Milliseconds(u32::from(value) << (value % 17));
         let mut setups = vec![
             Setup { history: value, ..good },
+            Setup { history: value, ..other },
             Setup { ticks_per_second: value, ..good },
             Setup { timeout, ..good },
             Setup { difference: timeout.0, ..good },
             random_setup(&mut random),
         ];
         if value < 256 {
-            setups.push(Setup { history: value, ..other });
             setups.push(Setup { rule: low, ..good });
             setups.push(Setup { taken: low, ..good });
             setups.push(Setup { usage: low, ..good });
@@ -110,11 +116,11 @@ fn setups_of_every_value() {
 /// number before it looks at how many there are.
 fn same_setup(random: &mut Random, setup: &Setup) -> u64 {
     let _ = check_setup(setup);
-    for count in [0, 22, 23, 24, 25, 40] {
+    for count in [0, 24, 29, 30, 31, 32, 47] {
         let lent: Vec<u64> = (0..count).map(|_| random.next_u64()).collect();
         let _ = fresh_into(setup, &lent);
     }
-    7
+    8
 }
 
 /// "Full ticks = ms x ticks per second / 1000, rounded up", in 128 bits.
@@ -188,7 +194,7 @@ fn random_state(random: &mut Random) -> State {
         0 => setup.rule = 2,
         1 => setup.taken = 2,
         2 => setup.usage = random.pick(&[2, 255]),
-        3 => setup.history = random.pick(&[0, 1, 65, 65_535]),
+        3 => setup.history = random.pick(&[0, 1, 513, 65_535]),
         4 => setup.timeout = Milliseconds(random.pick(&[0, 3_600_001])),
         5 => setup.ticks_per_second = random.pick(&[0, 10_001]),
         6 => setup.paths = random.pick(&[0, 1, 9]),
@@ -196,11 +202,11 @@ fn random_state(random: &mut Random) -> State {
     }
     let take_any = random.once_in(3);
     let full = setup.full_ticks().0;
-    let inside = u64::MAX >> (LONGEST_HISTORY - setup.history.clamp(1, LONGEST_HISTORY));
+    let inside = setup.history.clamp(1, LONGEST_HISTORY);
     let marks = match (take_any, setup.rule) {
-        (true, _) | (_, 1) => 0,
-        _ if random.once_in(4) => inside,
-        _ => random.next_u64() & inside | 1,
+        (true, _) | (_, 1) => Marks::NONE,
+        _ if random.once_in(4) => (0..inside).collect(),
+        _ => (0..inside).filter(|&mark| mark == 0 || random.once_in(2)).collect(),
     };
     let mut counter = || {
         let (any, bits) = (random.next_u64(), random.below(65) as u32);
@@ -222,8 +228,8 @@ fn random_state(random: &mut Random) -> State {
     let about_16_bits = random.between(65_534, 65_538) as u64;
     let least = u64::from(!take_any);
     let left = [least, 1, full, full.saturating_sub(1), full / 2 + 1, about_16_bits.min(full)];
-    let any = random.below(setup.history.clamp(1, LONGEST_HISTORY).into()) as u16;
-    let marked = (marks >> any & 1 == 1).then_some(any);
+    let any = random.below(inside.into()) as u16;
+    let marked = marks.is_set(any).then_some(any);
     let mut state = State {
         setup,
         newest: if take_any { 65_535 } else { random.number() },
@@ -236,15 +242,15 @@ fn random_state(random: &mut Random) -> State {
     };
     // One respect more in which it may be unsound.
     match random.below(16) {
-        0 => state.marks ^= 1,
-        1 => state.marks |= 1 << random.below(64),
+        0 => state.marks.0[0] ^= 1,
+        1 => state.marks.set(random.below(LONGEST_HISTORY.into()) as u16),
         2 => state.newest = random.number(),
         3 => state.ticks_left = Ticks(full + 1),
         4 => state.ticks_left = Ticks(random.next_u64()),
         5 => state.ticks_left = Ticks(0),
         6 => state.take_any = !state.take_any,
         7 => state.first = Some(any),
-        8 => state.first = Some(random.pick(&[0, setup.history, 63, 64, 65_535])),
+        8 => state.first = Some(random.pick(&[0, setup.history, 63, 64, 511, 512, 65_535])),
         _ => {}
     }
     state
@@ -258,7 +264,9 @@ fn states_sound_and_unsound() {
     for _ in 0..150_000 {
         let state = random_state(&mut random);
         sound += u64::from(state.is_sound());
-        for asked in events(state.newest.wrapping_add(random.between(-66, 66) as u16)) {
+        let about = i64::from(state.setup.history.min(LONGEST_HISTORY)) + 2;
+        let away = random.between(-about, about) as u16;
+        for asked in events(state.newest.wrapping_add(away)) {
             let _ = event(&state, asked);
             cases += 1;
         }
@@ -310,7 +318,8 @@ fn words_that_hold_no_state() {
     // field holds are those of a sound state.
     let of_the_setup = [(1, 8), (2, 8), (3, 8), (4, 16), (5, 32), (6, 16), (7, 8), (8, 32)];
     let without_a_first = words::of_state(&State { first: None, ..busy() });
-    for (at, bits) in of_the_setup.into_iter().chain([(9, 16), (AHZ_S_FIRST, 16), (12, 1)]) {
+    let behind = [(9, 16), (AHZ_S_FIRST, 16), (AHZ_S_TAKE_ANY, 1)];
+    for (at, bits) in of_the_setup.into_iter().chain(behind) {
         for more in bits..64 {
             for above in [1 << more, u64::MAX << more] {
                 for mut lent in [words, without_a_first] {
@@ -337,19 +346,25 @@ fn words_that_hold_no_state() {
     let mut without = words;
     without.rotate_left(1);
     cases += refused(&without, "no format");
-    // As the older formats had them: neither a first place nor before-first, and in the first one no use
-    // either; by themselves, and with any number behind them, under their own format and under this one.
-    let mut second = words.to_vec();
-    second.remove(AHZ_S_BEFORE_FIRST);
-    second.remove(AHZ_S_FIRST);
+    // As the older formats had them: one word of marks; before that neither a first place nor
+    // before-first, and in the first one no use either; by themselves, and with any number behind them,
+    // under their own format and under this one.
+    let mut third = words.to_vec();
+    third.drain(AHZ_S_MARKS + 1..AHZ_S_MARKS + AHZ_MARK_WORDS);
+    let mut second = third.clone();
+    second.remove(AHZ_S_BEFORE_FIRST + 1 - AHZ_MARK_WORDS);
+    second.remove(AHZ_S_FIRST + 1 - AHZ_MARK_WORDS);
     let mut first = second.clone();
     first.remove(AHZ_S_USE);
-    for (mut older, own) in [(second, words::FORMAT - 1), (first, words::FORMAT - 2)] {
+    assert_eq!([first.len(), second.len(), third.len()], [21, 22, 24]);
+    let older =
+        [(third, words::FORMAT - 1), (second, words::FORMAT - 2), (first, words::FORMAT - 3)];
+    for (mut older, own) in older {
         for format in [own, words::FORMAT] {
             older[0] = format;
             cases += refused(&older, &format!("{} words of format {format:#x}", older.len()));
             for behind in [0, 1, words[AHZ_S_USE], u64::MAX, random.next_u64()] {
-                let lent = [&older[..], &[behind; 9]].concat();
+                let lent = [&older[..], &[behind; 12]].concat();
                 cases += refused(&lent[..words::STATE], &format!("format {format:#x}, {behind}"));
                 cases += refused(&lent, &format!("format {format:#x} and more of {behind}"));
             }
@@ -370,8 +385,8 @@ fn longer_lent_states() {
     let mut random = Random::new(SEED);
     let mut cases = 0;
     let sound = busy();
-    let unsound = State { marks: 0, ..sound };
-    let counts = (25..=300).chain([511, 512, 536, 65_535, 65_536, 65_559, 65_560, 65_600]);
+    let unsound = State { marks: Marks::NONE, ..sound };
+    let counts = (32..=300).chain([511, 512, 543, 65_535, 65_536, 65_566, 65_567, 65_600]);
     for count in counts {
         let lent: Vec<u64> = (0..count).map(|_| random.next_u64()).collect();
         assert!(fresh_into(&sound.setup, &lent).is_ok());
@@ -411,7 +426,7 @@ fn event_lists_across_wraps_with_every_history() {
     let mut random = Random::new(SEED);
     let mut cases = 0;
     for rule in RULES {
-        for history in 2..=64 {
+        for history in 2..=LONGEST_HISTORY {
             let setup = Setup {
                 rule,
                 taken: (history % 2) as u8,
@@ -425,9 +440,10 @@ fn event_lists_across_wraps_with_every_history() {
             let near = u64::MAX - 30;
             let counters = Counters { lost: near, before_first: near, ..Counters::default() };
             let mut kept = Kept::of(&State { counters, ..State::fresh(setup).unwrap() });
-            // Begin shortly before the wrap; two steps on for each event go across it again.
+            // Begin shortly before the wrap; two steps on for each event go across it again, or more
+            // of them where the window is long.
             kept.event(Event::Packet(Some(65_500)));
-            for _ in 0..50_000 {
+            for _ in 0..if history <= 64 { 50_000 } else { 6_000 } {
                 kept.event(random_event(&mut random, kept.state().newest, history));
                 cases += 1;
             }
@@ -442,9 +458,11 @@ fn event_lists_across_wraps_with_every_history() {
 fn every_number_from_some_states() {
     let mut cases = 0;
     for (rule, usage) in RULES.into_iter().flat_map(|rule| USES.map(|usage| (rule, usage))) {
-        for history in [2, 4, 33, 63, 64] {
-            let marks = if rule == 1 { 0 } else { 0xAAAA_5555_AAAA_5555 >> (64 - history) | 1 };
-            let set: Vec<u16> = (0..history).filter(|mark| marks >> mark & 1 == 1).collect();
+        for history in [2, 4, 33, 63, 64, 65, 200, 512] {
+            // In runs of sixteen, now the even ones and now the odd.
+            let is_set = |mark: &u16| rule == 0 && (*mark == 0 || (mark / 16 + mark) % 2 == 0);
+            let set: Vec<u16> = (0..history).filter(is_set).collect();
+            let marks = set.iter().copied().collect();
             for (newest, first) in [
                 (0, None),
                 (10, set.first()),

@@ -28,7 +28,8 @@ fn same(tape: &[u8]) -> u64 {
 fn setup(random: &mut Random, tape: &mut Vec<u8>) {
     tape.extend([0x0F, random.pick(&[0, 0, 0, 1, 1, 2]), random.pick(&[0, 0, 1, 1, 1, 2])]);
     tape.push(random.pick(&[0, 0, 0, 0, 1, 1, 1, 1, 1, 2, 255]));
-    tape.extend(random.pick(&[2u16, 3, 4, 16, 63, 64, 4, 64, 1, 65]).to_be_bytes());
+    let histories = [2u16, 3, 4, 16, 63, 64, 65, 128, 200, 511, 512, 512, 1, 513];
+    tape.extend(random.pick(&histories).to_be_bytes());
     let timeouts = [1u32, 11, 100, 0x100, 0x1_0001, 0x10_0000, 3_600_000, 100, 0, 3_600_001];
     tape.extend(random.pick(&timeouts).to_be_bytes());
     tape.extend(random.pick(&[1u16, 100, 10_000, 100, 100, 0, 10_001]).to_be_bytes());
@@ -40,7 +41,8 @@ fn setup(random: &mut Random, tape: &mut Vec<u8>) {
 fn event(random: &mut Random, near: &mut u16, tape: &mut Vec<u8>) {
     match random.below(20) {
         0..=11 => {
-            *near = near.wrapping_add(random.below(5) as u16).wrapping_sub(1);
+            let far = random.between(-70, 600) as u16;
+            *near = near.wrapping_add(random.pick(&[0, 1, 2, 3, 65_535, 1, 2, far]));
             tape.push(1);
             tape.extend(near.to_be_bytes());
         }

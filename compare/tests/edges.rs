@@ -13,9 +13,8 @@ const PASS_OUT_OF_ORDER: Effect = (AHZ_PASS, [0, 1, 0]);
 const REPEAT: Effect = (AHZ_DISCARD, [1, 0, 0]);
 const ROGUE: Effect = (AHZ_DISCARD, [1, 0, 1]);
 
-/// A state after numbered packets, each of which has to pass.
-fn after(rule: u8, usage: u8, history: u16, numbers: &[u16]) -> Kept {
-    let setup = Setup {
+fn setup(rule: u8, usage: u8, history: u16) -> Setup {
+    Setup {
         rule,
         taken: 0,
         usage,
@@ -24,7 +23,12 @@ fn after(rule: u8, usage: u8, history: u16, numbers: &[u16]) -> Kept {
         ticks_per_second: 100,
         paths: 2,
         difference: 1,
-    };
+    }
+}
+
+/// A state after numbered packets, each of which has to pass.
+fn after(rule: u8, usage: u8, history: u16, numbers: &[u16]) -> Kept {
+    let setup = setup(rule, usage, history);
     let mut kept = Kept::of(&layers::fresh(&setup).expect("a setup in range"));
     for &number in numbers {
         assert_eq!(kept.event(Event::Packet(Some(number))), AHZ_PASS, "{number} was to pass");
@@ -64,7 +68,7 @@ fn history_of_four_after_ten_and_thirteen() {
 
 #[test]
 fn the_wrap_is_in_order() {
-    for history in 2..=64 {
+    for history in 2..=512 {
         one(VECTOR, history, &[65_535], 0, PASS_IN_ORDER);
     }
 }
@@ -74,6 +78,45 @@ fn history_of_sixty_four_below_zero() {
     one(VECTOR, 64, &[0], 65_473, PASS_OUT_OF_ORDER);
     one(VECTOR, 64, &[0], 65_472, ROGUE);
     one(VECTOR, 64, &[0], 32_768, ROGUE);
+}
+
+/// "Add first 0, then 65,025 passes and 65,024 is rogue"; and the other side.
+#[test]
+fn history_of_512_about_zero() {
+    one(VECTOR, 512, &[0], 65_025, PASS_OUT_OF_ORDER);
+    one(VECTOR, 512, &[0], 65_024, ROGUE);
+    one(VECTOR, 512, &[0], 32_768, ROGUE);
+    one(VECTOR, 512, &[0, 65_025], 65_025, REPEAT);
+    one(VECTOR, 512, &[0], 511, PASS_OUT_OF_ORDER);
+    one(VECTOR, 512, &[0], 512, ROGUE);
+    one(VECTOR, 512, &[0, 511], 0, REPEAT);
+    one(VECTOR, 512, &[0, 511], 65_535, ROGUE);
+}
+
+/// Both sides of every history length, above and below: the last that passes and the first rogue.
+#[test]
+fn every_history_about_zero() {
+    for history in 2..=512u16 {
+        one(VECTOR, history, &[0], history.wrapping_neg() + 1, PASS_OUT_OF_ORDER);
+        one(VECTOR, history, &[0], history.wrapping_neg(), ROGUE);
+        let ahead = if history == 2 { PASS_IN_ORDER } else { PASS_OUT_OF_ORDER };
+        one(VECTOR, history, &[0], history - 1, ahead);
+        one(VECTOR, history, &[0], history, ROGUE);
+    }
+}
+
+/// "Refusal 16 and the sound state follow", under match too.
+#[test]
+fn history_from_513_is_refused() {
+    for (rule, usage) in
+        [VECTOR, MATCH].into_iter().flat_map(|rule| USES.map(|usage| (rule, usage)))
+    {
+        assert_eq!(layers::check_setup(&setup(rule, usage, 512)), Ok(()));
+        for history in [513, 514, 576, 1_024, 32_768, 65_535] {
+            assert_eq!(layers::check_setup(&setup(rule, usage, history)), Err(16), "{history}");
+            assert_eq!(layers::fresh(&setup(rule, usage, history)), Err(16), "{history}");
+        }
+    }
 }
 
 #[test]

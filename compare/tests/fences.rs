@@ -103,7 +103,8 @@ fn calls_on_generators_and_states() {
         Setup { rule: MATCH, ..setup },
         Setup { taken: 0, usage: INDIVIDUAL, ..setup },
         Setup { usage: 2, ..setup },
-        Setup { history: 65, ..setup },
+        Setup { history: 512, ..setup },
+        Setup { history: 513, ..setup },
     ];
     fenced(|| {
         for number in [0, 7, 65_535] {
@@ -112,15 +113,19 @@ fn calls_on_generators_and_states() {
         let _ = ticks(setup.timeout, 100);
         for setup in setups {
             let _ = check_setup(&setup);
-            for words in [0, 1, 22, 23, 24, 25, 300] {
+            for words in [0, 1, 24, 29, 30, 31, 32, 300] {
                 let _ = fresh_into(&setup, &vec![7; words]);
             }
             let Ok(fresh) = State::fresh(setup) else { continue };
             let mut kept = Kept::of(&fresh);
-            for asked in [events(5), events(5), events(8), events(6)].concat() {
+            // Slides by part of a word, by a word and by all but the newest mark, and late packets.
+            let slides =
+                [5, 8, 72, 510, 65_535, 1_021, 511].map(|number| Event::Packet(Some(number)));
+            for asked in [&slides[..], &events(5), &events(5), &events(8), &events(6)].concat() {
                 kept.event(asked);
                 let state = kept.state();
-                for state in [state, State { newest: 9, marks: 1 << 9, ..state }] {
+                let beyond = [9, 200, 511].into_iter().collect();
+                for state in [state, State { newest: 9, marks: beyond, ..state }] {
                     let _ = event(&state, asked);
                 }
             }

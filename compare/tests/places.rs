@@ -14,7 +14,9 @@ mod common;
 use ahozurime_sys as sys;
 use common::report;
 use compare::layers::{self, Event, Kept, USES};
-use compare::plain::recovery::{Counters, Milliseconds, Setup, State, INDIVIDUAL, MATCH, VECTOR};
+use compare::plain::recovery::{
+    Counters, Marks, Milliseconds, Setup, State, INDIVIDUAL, MATCH, VECTOR,
+};
 use compare::random::{Random, SEED};
 use std::collections::BTreeSet;
 
@@ -212,12 +214,12 @@ impl Model {
         assert_eq!(state.take_any, self.span.is_none() && self.last.is_none());
         let Some(span) = &self.span else {
             let newest = self.last.unwrap_or(65_535);
-            assert_eq!((state.newest, state.marks, state.first), (newest, 0, None));
+            assert_eq!((state.newest, state.marks, state.first), (newest, Marks::NONE, None));
             return;
         };
         assert_eq!(i64::from(state.newest), span.newest.rem_euclid(65_536));
         let near = span.passed.range(span.newest - history + 1..);
-        let marks = near.fold(0, |marks, place| marks | 1 << (span.newest - place));
+        let marks = near.map(|place| (span.newest - place) as u16).collect();
         let below = span.newest - span.first;
         let first = (below < history).then_some(below as u16);
         assert_eq!((state.marks, state.first), (marks, first));
@@ -273,6 +275,19 @@ fn random_setup(random: &mut Random, rule: u8, history: u16) -> Setup {
     }
 }
 
+/// Every H whose marks are in one word, and those of more words that fill their last one, or would
+/// with a mark more or less.
+fn histories() -> impl Iterator<Item = u16> {
+    let about = |words: u16| [64 * words - 1, 64 * words, 64 * words + 1];
+    (2..=64).chain((1..=8).flat_map(about).filter(|history| (65..=512).contains(history)))
+}
+
+/// Every d below an H of one word; of more words, those of whole words, and the ends.
+fn slides(history: u16) -> impl Iterator<Item = u16> {
+    let far = move |d: u16| [0, 1, 2, 62, 63].contains(&(d % 64)) || d + 2 >= history;
+    (1..history).filter(move |&d| history <= 64 || far(d))
+}
+
 /// The list so far, and the state that each version made of it.
 struct Held {
     model: Model,
@@ -320,8 +335,8 @@ fn short_lists_counted_after_each_event() {
     let mut random = Random::new(SEED);
     let mut events = 0;
     let mut seen = Counters::default();
-    for history in 2..=64 {
-        for list in 0..60 {
+    for history in 2..=512 {
+        for list in 0..if history <= 64 { 60 } else { 12 } {
             let rule = if list % 6 == 5 { MATCH } else { VECTOR };
             let setup = random_setup(&mut random, rule, history);
             let mut held = Held::fresh(setup);
@@ -355,7 +370,10 @@ fn timeouts_at_the_moment_of_the_use() {
     let (mut events, mut apart, mut wraps) = (0, 0, 0);
     let near = Counters { lost: u64::MAX - 20, before_first: u64::MAX - 20, ..Counters::default() };
     let (mut timeouts, mut taking_any) = ([0; 2], [0; 2]);
-    for (history, list) in (2..=64).flat_map(|history| (0..24).map(move |list| (history, list))) {
+    let lists = |history| 0..if history <= 64 { 24 } else { 6 };
+    for (history, list) in
+        (2..=512).flat_map(|history| lists(history).map(move |list| (history, list)))
+    {
         let rule = if list % 6 == 5 { MATCH } else { VECTOR };
         let timeout = Milliseconds(random.between(1, 80) as u32);
         let setup =
@@ -391,7 +409,7 @@ fn timeouts_at_the_moment_of_the_use() {
 fn long_spans_across_wraps() {
     let mut random = Random::new(SEED + 1);
     let mut events = 0;
-    for history in 2..=64 {
+    for history in histories() {
         let setup = Setup {
             timeout: Milliseconds(3_600_000),
             ticks_per_second: 10_000,
@@ -410,7 +428,7 @@ fn long_spans_across_wraps() {
         assert_eq!(held.model.counted.resets, 0);
         events += held.events;
     }
-    report("events in spans over two wraps, every H", events);
+    report("events in spans over two wraps", events);
 }
 
 /// Streams that lose nothing, by two paths: the window fills, whatever its length, and stays full. What
@@ -419,17 +437,19 @@ fn long_spans_across_wraps() {
 fn streams_without_a_gap() {
     let mut random = Random::new(SEED + 2);
     let mut events = 0;
-    for history in 2..=64 {
+    for history in 2..=512 {
         let mut held = Held::fresh(random_setup(&mut random, VECTOR, history));
+        let numbers = u64::from(history) + 136;
         for streams in 1..=2 {
-            for number in 65_436..65_636u32 {
+            for number in 65_436..65_436 + numbers {
                 let packet = Event::Packet(Some(number as u16));
                 for event in [packet, packet, Event::LatentTest] {
-                    held.event(event, 1);
+                    held.event(event, if history <= 64 { 1 } else { 101 });
                 }
             }
             let counted = held.model.counted;
-            assert_eq!((counted.passed, counted.discarded), (200 * streams, 200 * streams));
+            let all = numbers * streams;
+            assert_eq!((counted.passed, counted.discarded), (all, all));
             assert_eq!((counted.order, counted.rogue), (0, 0));
             let before = streams * (u64::from(history) - 1);
             assert_eq!((counted.lost, counted.before_first), (before, before));
@@ -443,18 +463,19 @@ fn streams_without_a_gap() {
     report("events in streams without a gap, every H", events);
 }
 
-/// The same slide again and again, by every d below every H, in one span for each H: marks that
-/// went through many slides. Behind each come none, some or all of the late packets that the window
-/// still takes.
+/// The same slide again and again, in one span for each H: marks that went through many slides. Behind
+/// each come none, some or all of the late packets that the window still takes.
 #[test]
 fn the_same_slide_in_sequence() {
     let mut random = Random::new(SEED + 3);
     let mut events = 0;
-    for history in 2..=64u16 {
+    for history in histories() {
         let mut held = Held::fresh(random_setup(&mut random, VECTOR, history));
         let mut newest = 65_530u16;
         held.event(Event::Packet(Some(newest)), 1);
-        for (d, quarters) in (1..history).flat_map(|d| (0..=4).map(move |quarters| (d, quarters))) {
+        for (d, quarters) in
+            slides(history).flat_map(|d| (0..=4).map(move |quarters| (d, quarters)))
+        {
             for _ in 0..4 {
                 newest = newest.wrapping_add(d);
                 held.event(Event::Packet(Some(newest)), 20_011);
@@ -465,27 +486,29 @@ fn the_same_slide_in_sequence() {
         }
         held.model.closes(true);
         let span = held.model.span.as_ref().expect("no reset");
-        let slid: i64 = (1..i64::from(history)).map(|d| 20 * d).sum();
+        let slid: i64 = slides(history).map(|d| 20 * i64::from(d)).sum();
         assert_eq!((span.newest - span.first, held.model.counted.rogue), (slid, 0));
         events += held.events;
     }
-    report("events with the same slide in sequence, every H", events);
+    report("events with the same slide in sequence", events);
 }
 
-/// Every way past the first place: from a reset or a timeout on, the same slide by every d below every H
-/// until the window has left the first place behind. Before each come none, half or all of the late
-/// packets that the window takes, those below the first place among them.
+/// Every way past the first place: from a reset or a timeout on, the same slide until the window has left
+/// the first place behind. Before each come none, half or all of the late packets that the window takes,
+/// those below the first place among them; where the marks are in more words, one in so many of these.
 #[test]
 fn past_the_first_place() {
     let mut random = Random::new(SEED + 5);
     let mut events = 0;
-    for history in 2..=64u16 {
+    for history in histories() {
         let mut held = Held::fresh(random_setup(&mut random, VECTOR, history));
-        for (d, halves) in (1..history).flat_map(|d| (0..=2).map(move |halves| (d, halves))) {
+        let words = u64::from(history.div_ceil(64));
+        for (d, halves) in slides(history).flat_map(|d| (0..=2).map(move |halves| (d, halves))) {
             let mut newest = held.near(&mut random);
             held.event(Event::Packet(Some(newest)), 1);
             for _ in 0..=history / d + 1 {
-                for late in (1..history).filter(|_| random.below(2) < halves) {
+                let mut is_sent = || random.below(2) < halves && random.once_in(words);
+                for late in (1..history).filter(|_| is_sent()) {
                     held.event(Event::Packet(Some(newest.wrapping_sub(late))), 1);
                 }
                 newest = newest.wrapping_add(d);
@@ -502,5 +525,5 @@ fn past_the_first_place() {
         assert_eq!(held.model.counted.rogue, 0);
         events += held.events;
     }
-    report("events past the first place, every H", events);
+    report("events past the first place", events);
 }

@@ -3,7 +3,8 @@
 use ahozurime_sys::{AHZ_DONE, AHZ_R_STATE};
 use compare::layers::{check_setup, event, events, fresh, Event, RULES, USES};
 use compare::plain::recovery::{
-    Counters, Milliseconds, Setup, State, Ticks, INDIVIDUAL, MATCH, SEQUENCE, VECTOR,
+    Counters, Marks, Milliseconds, Setup, State, Ticks, INDIVIDUAL, LONGEST_HISTORY, MATCH,
+    SEQUENCE, VECTOR,
 };
 
 const SETUP: Setup = Setup {
@@ -55,7 +56,7 @@ const OUT_OF_RANGE: [(u8, &[u32]); 7] = [
     (15, &[2, 255]),
     (27, &[2, 255]),
     (27, &[2, 255]),
-    (16, &[0, 1, 65, 65_535]),
+    (16, &[0, 1, 513, 65_535]),
     (17, &[0, 3_600_001, u32::MAX]),
     (18, &[0, 10_001, 65_535]),
     (19, &[0, 1, 9, 255]),
@@ -97,7 +98,8 @@ fn a_setup_by_itself_and_inside_a_state() {
         for (_, number, setup) in one_out_of_range(good) {
             assert_eq!(check_setup(&setup), Err(number), "{setup:?}");
             assert_eq!(fresh(&setup), Err(number));
-            let (fresh, marks) = (fresh(&good).unwrap(), u64::from(good.rule == VECTOR));
+            let fresh = fresh(&good).unwrap();
+            let marks = (0..u16::from(good.rule == VECTOR)).collect();
             let running =
                 State { newest: 9, marks, take_any: false, ticks_left: Ticks(1), ..fresh };
             for state in [fresh, running] {
@@ -111,6 +113,10 @@ fn a_setup_by_itself_and_inside_a_state() {
         (MATCH, 1, SEQUENCE, 64, 3_600_000, 10_000, 8),
         (VECTOR, 1, SEQUENCE, 64, 1, 10_000, 2),
         (MATCH, 0, INDIVIDUAL, 2, 3_600_000, 1, 8),
+        (VECTOR, 0, SEQUENCE, 65, 1, 1, 8),
+        (MATCH, 1, INDIVIDUAL, 65, 1, 1, 2),
+        (VECTOR, 1, INDIVIDUAL, 512, 3_600_000, 1, 2),
+        (MATCH, 0, SEQUENCE, 512, 1, 10_000, 8),
     ] {
         let timeout = Milliseconds(timeout);
         for difference in [0, u32::MAX] {
@@ -145,7 +151,7 @@ fn fresh_and_reset() {
         let expected = State {
             setup,
             newest: 65_535,
-            marks: 0,
+            marks: Marks::NONE,
             first: None,
             take_any: true,
             ticks_left: Ticks(0),
@@ -162,7 +168,7 @@ fn fresh_and_reset() {
         };
         let used = State {
             newest: 9,
-            marks: 0b1011,
+            marks: [0, 1, 3].into_iter().collect(),
             first: Some(3),
             take_any: false,
             ticks_left: Ticks(4),
@@ -176,8 +182,20 @@ fn fresh_and_reset() {
     }
 }
 
-/// Each sentence of "Sound state", and what CR 7 adds to it, on both sides, every mark under every H
-/// among them.
+/// "H 2 to 512; refusal 16", under both rules and in both uses.
+#[test]
+fn every_history_length() {
+    for good in in_range() {
+        for history in 0..=1_100 {
+            let setup = Setup { history, ..good };
+            let expected = if (2..=512).contains(&history) { Ok(()) } else { Err(16) };
+            assert_eq!(check_setup(&setup), expected, "{setup:?}");
+            assert_eq!(fresh(&setup).map(|state| state.setup.history), expected.map(|()| history));
+        }
+    }
+}
+
+/// Each sentence of "Sound state", and what CR 7 adds to it, on both sides.
 #[test]
 fn unsound_in_each_respect() {
     for usage in USES {
@@ -185,9 +203,23 @@ fn unsound_in_each_respect() {
     }
 }
 
-/// Every mark that a window can have, and some that none has.
+/// Every mark of a state, of whichever word.
+fn marks() -> impl Iterator<Item = u16> {
+    0..LONGEST_HISTORY
+}
+
+/// Every mark of the first words, the borders of all, and some that no state has.
 fn firsts() -> impl Iterator<Item = u16> {
-    (0..=65).chain([127, 256, 65_534, 65_535])
+    (0..=129).chain(marks().filter(is_border)).chain([512, 513, 576, 1_024, 65_534, 65_535])
+}
+
+/// The first or the last mark of a word.
+fn is_border(mark: &u16) -> bool {
+    [0, 63].contains(&(mark % 64))
+}
+
+fn only(mark: u16) -> Marks {
+    [mark].into_iter().collect()
 }
 
 /// Of a setup with H 4 and full ticks of 10.
@@ -199,25 +231,77 @@ fn each_respect(setup: Setup) {
     refused(State { ticks_left: Ticks(u64::MAX), ..fresh });
     refused(State { newest: 65_534, ..fresh });
     refused(State { newest: 0, ..fresh });
-    for mark in 0..64 {
-        refused(State { marks: 1 << mark, ..fresh });
+    for mark in marks() {
+        refused(State { marks: only(mark), ..fresh });
     }
     for first in firsts() {
         refused(State { first: Some(first), ..fresh });
     }
-    // Vector: ticks from 1 to full, mark 0 set, none at H or above.
-    let running = State { take_any: false, newest: 300, marks: 1, ticks_left: Ticks(10), ..fresh };
+    // Vector: ticks from 1 to full, mark 0 set.
+    let running = running(setup);
     accepted(running);
-    accepted(State { marks: 0b1111, ticks_left: Ticks(1), ..running });
+    accepted(State { marks: (0..4).collect(), ticks_left: Ticks(1), ..running });
     accepted(State { newest: 65_535, ..running });
     refused(State { ticks_left: Ticks(0), ..running });
     refused(State { ticks_left: Ticks(11), ..running });
-    refused(State { marks: 0, ..running });
-    refused(State { marks: 0b1110, ..running });
-    for history in 2..=64u16 {
-        let setup = Setup { history, ..setup };
-        for mark in 1..64 {
-            let marked = State { setup, marks: 1 | 1 << mark, ..running };
+    refused(State { marks: Marks::NONE, ..running });
+    refused(State { marks: (1..4).collect(), ..running });
+    // Match: no mark at all, and no first place.
+    let matching = State { setup: Setup { rule: MATCH, ..setup }, marks: Marks::NONE, ..running };
+    accepted(matching);
+    refused(State { ticks_left: Ticks(0), ..matching });
+    refused(State { ticks_left: Ticks(11), ..matching });
+    for mark in marks() {
+        refused(State { marks: only(mark), ..matching });
+    }
+    for first in firsts() {
+        refused(State { first: Some(first), ..matching });
+    }
+}
+
+/// A state under vector with mark 0 alone.
+fn running(setup: Setup) -> State {
+    let fresh = fresh(&setup).unwrap();
+    State { take_any: false, newest: 300, marks: only(0), ticks_left: Ticks(10), ..fresh }
+}
+
+/// "Marks at H and above clear", up to the 512th: for every H, the borders of the words and the marks
+/// about H, each beside mark 0 alone and beside all marks of the window.
+#[test]
+fn marks_at_every_history_and_above() {
+    for history in 2..=LONGEST_HISTORY {
+        let usage = USES[usize::from(history % 2)];
+        let running = running(Setup { history, usage, ..SETUP });
+        let about = |mark: &u16| is_border(mark) || mark.abs_diff(history) < 3;
+        for mark in marks().skip(1).filter(about) {
+            let alone: Marks = [0, mark].into_iter().collect();
+            let with_all: Marks = (0..history).chain([mark]).collect();
+            for marks in [alone, with_all] {
+                let marked = State { marks, ..running };
+                if mark < history {
+                    accepted(marked);
+                } else {
+                    refused(marked);
+                }
+            }
+        }
+        if history < LONGEST_HISTORY {
+            refused(State { marks: marks().collect(), ..running });
+        }
+        accepted(State { marks: (0..history).collect(), ..running });
+        // Mark 0 is to be set, whatever else is.
+        refused(State { marks: (1..history).collect(), ..running });
+        refused(State { marks: only(history - 1), ..running });
+    }
+}
+
+/// The same for every mark of a state where H is in the first word or about a border of two.
+#[test]
+fn every_mark_at_some_histories() {
+    for history in [2, 4, 33, 63, 64, 65, 100, 127, 128, 129, 256, 448, 511, 512] {
+        let running = running(Setup { history, ..SETUP });
+        for mark in marks().skip(1) {
+            let marked = State { marks: [0, mark].into_iter().collect(), ..running };
             if mark < history {
                 accepted(marked);
             } else {
@@ -225,34 +309,28 @@ fn each_respect(setup: Setup) {
             }
         }
     }
-    // A first place has its mark set, whatever else is set.
-    for history in 2..=64u16 {
-        let whole = u64::MAX >> (64 - history);
-        let running = State { setup: Setup { history, ..setup }, ..running };
-        for first in firsts() {
+}
+
+/// A first place has its mark set, whatever else is set: every H, and in each of its words.
+#[test]
+fn first_places_at_every_history() {
+    for history in 2..=LONGEST_HISTORY {
+        let usage = USES[usize::from(history % 2)];
+        let running = running(Setup { history, usage, ..SETUP });
+        let about = |first: &u16| is_border(first) || first.abs_diff(history) < 3;
+        for first in firsts().filter(|first| history <= 64 || about(first)) {
             let at = |marks| State { marks, first: Some(first), ..running };
+            let others = (0..history).filter(|&mark| mark != first).collect();
             if first < history {
-                let mark = 1 << first;
-                accepted(at(1 | mark));
-                accepted(at(whole));
-                refused(at(whole ^ mark));
-                refused(at(1 & !mark));
+                accepted(at([0, first].into_iter().collect()));
+                accepted(at((0..history).collect()));
+                refused(at(others));
+                refused(at((0..u16::from(first > 0)).collect()));
             } else {
-                refused(at(1));
-                refused(at(whole));
-                refused(at(whole | 1u64.checked_shl(first.into()).unwrap_or(0)));
+                refused(at(only(0)));
+                refused(at(others));
+                refused(at((0..history).chain([first]).collect()));
             }
         }
-    }
-    // Match: no mark at all, and no first place.
-    let matching = State { setup: Setup { rule: MATCH, ..setup }, marks: 0, ..running };
-    accepted(matching);
-    refused(State { ticks_left: Ticks(0), ..matching });
-    refused(State { ticks_left: Ticks(11), ..matching });
-    for mark in 0..64 {
-        refused(State { marks: 1 << mark, ..matching });
-    }
-    for first in firsts() {
-        refused(State { first: Some(first), ..matching });
     }
 }

@@ -10,9 +10,10 @@ use ahozurime_sys::{
 use common::report;
 use compare::layers::{event, generate, generator_reset, Event, Kept, RULES, USES};
 use compare::plain::recovery::{
-    Counters, Milliseconds, Setup, State, Ticks, INDIVIDUAL, MATCH, SEQUENCE, VECTOR,
+    Counters, Marks, Milliseconds, Setup, State, Ticks, INDIVIDUAL, MATCH, SEQUENCE, VECTOR,
 };
 use compare::random::{Random, SEED};
+use std::collections::VecDeque;
 
 const SETUP: Setup = Setup {
     rule: VECTOR,
@@ -66,7 +67,7 @@ fn timed(setup: Setup, newest: Option<u16>, left: u64) -> State {
     let marked = newest.is_some() && setup.rule == VECTOR;
     State {
         newest: newest.unwrap_or(65_535),
-        marks: if marked { 0b101 } else { 0 },
+        marks: if marked { [0, NEWEST - LATE].into_iter().collect() } else { Marks::NONE },
         first: marked.then_some(NEWEST - LATE),
         take_any: newest.is_none(),
         ticks_left: Ticks(left),
@@ -254,27 +255,29 @@ fn row(history: u16, first: Option<u16>, mut set: impl FnMut(u16) -> bool) -> Ro
     Row { marks: (0..history).map(set).collect(), first, lost: 0, before_first: 0 }
 }
 
-fn word(row: &[bool]) -> u64 {
-    row.iter().rev().fold(0, |marks, &mark| marks << 1 | u64::from(mark))
-}
-
 /// A row, which of its places is the first packet's, and how many clear marks have left it: in all, and
 /// from below the first.
 struct Row {
-    marks: Vec<bool>,
+    marks: VecDeque<bool>,
     first: Option<u16>,
     lost: u64,
     before_first: u64,
+}
+
+impl Row {
+    fn marks(&self) -> Marks {
+        (0..).zip(&self.marks).filter(|(_, &set)| set).map(|(mark, _)| mark).collect()
+    }
 }
 
 /// The row moved as 01 and 002 clause 7.4.3.6 say, one place at a time. While the row has the first
 /// place, a clear mark that leaves it comes from below that.
 fn moved(mut row: Row, d: u16) -> Row {
     for _ in 0..d {
-        let left = row.marks.pop().expect("at least two marks");
+        let left = row.marks.pop_back().expect("at least two marks");
         row.lost += u64::from(!left);
         row.before_first += u64::from(!left && row.first.is_some());
-        row.marks.insert(0, false);
+        row.marks.push_front(false);
         row.first = row.first.map(|mark| mark + 1).filter(|&mark| mark < row.marks.len() as u16);
     }
     row.marks[0] = true;
@@ -283,10 +286,13 @@ fn moved(mut row: Row, d: u16) -> Row {
 
 /// Which marks are set beside mark 0, by the mark, H and d; the marks from H - d on leave. Mark 0 is
 /// set in every sound state, so "none" and "only the first" are one case; mark 1 stands for the next.
+/// A border is the first or the last mark of a word.
 type Extreme = (&'static str, fn(u16, u16, u16) -> bool);
-const EXTREMES: [Extreme; 10] = [
+const EXTREMES: [Extreme; 14] = [
     ("none, or only mark 0", |_, _, _| false),
     ("all", |_, _, _| true),
+    ("every other", |mark, _, _| mark % 2 == 1),
+    ("only the borders", |mark, _, _| is_border(mark)),
     ("only the last", |mark, h, _| mark == h - 1),
     ("only mark 1", |mark, _, _| mark == 1),
     ("all but the last", |mark, h, _| mark != h - 1),
@@ -295,70 +301,179 @@ const EXTREMES: [Extreme; 10] = [
     ("only the highest that stays", |mark, h, d| mark == h - d - 1),
     ("all that leave", |mark, h, d| mark >= h - d),
     ("all that stay", |mark, h, d| mark < h - d),
+    ("all but the borders", |mark, _, _| !is_border(mark)),
+    ("every other word", |mark, _, _| mark / 64 % 2 == 1),
 ];
 
-/// Every d below every H, with the first place at every mark of the window and at none, from extreme
-/// marks and from any, against marks moved one by one. About half go from any number with counters at
-/// 0, the others round 65,535 with counters that wrap.
+fn is_border(mark: u16) -> bool {
+    [0, 63].contains(&(mark % 64))
+}
+
+/// What the slides of a test have counted.
+#[derive(Default)]
+struct Slides {
+    cases: u64,
+    wraps: u64,
+    wraps_before_first: u64,
+}
+
+impl Slides {
+    /// One slide by d, against the row moved one by one. About half go from any number with counters at
+    /// 0, the others round 65,535 with counters that wrap.
+    fn slide(&mut self, random: &mut Random, name: &str, row: Row, d: u16) {
+        let history = row.marks.len() as u16;
+        let mut below = || random.below(d.into());
+        let below_the_wrap = 65_535 - below() as u16;
+        let near = Counters { lost: u64::MAX - below(), before_first: u64::MAX - below(), ..FULL };
+        let starts = [(random.number(), Counters::default()), (below_the_wrap, near)];
+        let (newest, counters) = random.pick(&starts);
+        let state = State {
+            setup: Setup { history, ..SETUP },
+            newest,
+            marks: row.marks(),
+            first: row.first,
+            take_any: false,
+            ticks_left: Ticks(3),
+            counters,
+            ..State::fresh(SETUP).unwrap()
+        };
+        let number = newest.wrapping_add(d);
+        let row = moved(row, d);
+        let next = State {
+            newest: number,
+            marks: row.marks(),
+            first: row.first,
+            ticks_left: Ticks(10),
+            counters: Counters {
+                passed: counters.passed.wrapping_add(1),
+                order: counters.order.wrapping_add(u64::from(d != 1)),
+                lost: counters.lost.wrapping_add(row.lost),
+                before_first: counters.before_first.wrapping_add(row.before_first),
+                ..counters
+            },
+            ..state
+        };
+        assert_eq!(packet(&state, Some(number)), (AHZ_PASS, next), "H {history}, {name}");
+        self.wraps += u64::from(next.counters.lost < counters.lost && number < newest);
+        self.wraps_before_first += u64::from(next.counters.before_first < counters.before_first);
+        self.cases += 1;
+    }
+
+    fn report(&self, what: &str) {
+        let Slides { cases, wraps, wraps_before_first } = *self;
+        assert!(wraps > cases / 8, "numbers and lost were to wrap: {wraps}");
+        assert!(wraps_before_first > cases / 16, "before-first was to wrap: {wraps_before_first}");
+        report(what, cases);
+    }
+}
+
+/// Every d below every H that one word has marks for, with the first place at every mark of the window
+/// and at none, from extreme marks and from any, against marks moved one by one.
 #[test]
 fn marks_move_one_place_at_a_time() {
     let mut random = Random::new(SEED);
-    let (mut cases, mut wraps, mut wraps_before_first) = (0, 0, 0);
-    let slides = (2..=64).flat_map(|history| (1..history).map(move |d| (history, d)));
-    for (history, d, first) in slides.flat_map(|(history, d)| {
-        (0..history).map(Some).chain([None; 4]).map(move |first| (history, d, first))
-    }) {
-        let extremes =
-            EXTREMES.map(|(name, set)| (name, row(history, first, |mark| set(mark, history, d))));
-        let any = [(); 6].map(|()| ("any", row(history, first, |_| random.once_in(2))));
-        for (name, row) in extremes.into_iter().chain(any) {
-            let mut below = || random.below(d.into());
-            let below_the_wrap = 65_535 - below() as u16;
-            let near =
-                Counters { lost: u64::MAX - below(), before_first: u64::MAX - below(), ..FULL };
-            let starts = [(random.number(), Counters::default()), (below_the_wrap, near)];
-            let (newest, counters) = random.pick(&starts);
-            let state = State {
-                setup: Setup { history, ..SETUP },
-                newest,
-                marks: word(&row.marks),
-                first,
-                take_any: false,
-                ticks_left: Ticks(3),
-                counters,
-                ..State::fresh(SETUP).unwrap()
-            };
-            let number = newest.wrapping_add(d);
-            let row = moved(row, d);
-            let next = State {
-                newest: number,
-                marks: word(&row.marks),
-                first: row.first,
-                ticks_left: Ticks(10),
-                counters: Counters {
-                    passed: counters.passed.wrapping_add(1),
-                    order: counters.order.wrapping_add(u64::from(d != 1)),
-                    lost: counters.lost.wrapping_add(row.lost),
-                    before_first: counters.before_first.wrapping_add(row.before_first),
-                    ..counters
-                },
-                ..state
-            };
-            assert_eq!(packet(&state, Some(number)), (AHZ_PASS, next), "H {history}, {name}");
-            wraps += u64::from(next.counters.lost < counters.lost && number < newest);
-            wraps_before_first += u64::from(next.counters.before_first < counters.before_first);
+    let mut slides = Slides::default();
+    for (history, d) in (2..=64).flat_map(|history| (1..history).map(move |d| (history, d))) {
+        for first in (0..history).map(Some).chain([None; 4]) {
+            for (name, set) in EXTREMES {
+                let row = row(history, first, |mark| set(mark, history, d));
+                slides.slide(&mut random, name, row, d);
+            }
+            for _ in 0..6 {
+                let row = row(history, first, |_| random.once_in(2));
+                slides.slide(&mut random, "any", row, d);
+            }
+        }
+    }
+    slides.report("slides in one word");
+}
+
+/// Every d below every H that needs more words, from the first four extremes, from one of them in turn,
+/// and from any marks. The first place stands anywhere, at a border, about the marks that leave, or
+/// nowhere.
+#[test]
+fn marks_move_across_words() {
+    let mut random = Random::new(SEED + 1);
+    let mut slides = Slides::default();
+    let mut turns = EXTREMES.iter().cycle();
+    for (history, d) in (65..=512).flat_map(|history| (1..history).map(move |d| (history, d))) {
+        for (name, set) in EXTREMES.iter().take(4).chain(turns.next()) {
+            let first = first_place(&mut random, history, d);
+            let row = row(history, first, |mark| set(mark, history, d));
+            slides.slide(&mut random, name, row, d);
+        }
+        let first = first_place(&mut random, history, d);
+        let row = row(history, first, |_| random.once_in(2));
+        slides.slide(&mut random, "any", row, d);
+    }
+    slides.report("slides across words, every H and d");
+}
+
+/// The same about each length that fills its words: every extreme.
+#[test]
+fn marks_move_about_full_words() {
+    let mut random = Random::new(SEED + 2);
+    let mut slides = Slides::default();
+    let about = |words: u16| [64 * words - 1, 64 * words, 64 * words + 1];
+    let histories = (2..=8).flat_map(about).filter(|&history| history <= 512);
+    for (history, d) in histories.flat_map(|history| (1..history).map(move |d| (history, d))) {
+        for (name, set) in EXTREMES {
+            let first = first_place(&mut random, history, d);
+            let row = row(history, first, |mark| set(mark, history, d));
+            slides.slide(&mut random, name, row, d);
+        }
+    }
+    slides.report("slides about full words");
+}
+
+/// A mark of the window for the first place, or none.
+fn first_place(random: &mut Random, history: u16, d: u16) -> Option<u16> {
+    let any = random.below(history.into()) as u16;
+    let border = any / 64 * 64 + random.pick(&[0, 63]);
+    let first = random.pick(&[any, any, border, 0, history - d - 1, history - d, history - 1]);
+    Some(first).filter(|&first| first < history && !random.once_in(5))
+}
+
+/// Every late packet below every H, where its mark alone is set, where all others are, and from any
+/// marks: it is judged by its own mark, of whichever word, and sets that one alone.
+#[test]
+fn late_packets_by_their_own_mark() {
+    let mut random = Random::new(SEED + 3);
+    let (mut cases, mut passed) = (0, 0);
+    for (history, late) in
+        (2..=512).flat_map(|history| (0..history).map(move |late| (history, late)))
+    {
+        let newest = random.number();
+        let alone = row(history, None, |mark| mark == late);
+        let others = row(history, None, |mark| mark != late);
+        let any = row(history, None, |_| random.once_in(2));
+        for mut row in [alone, others, any] {
+            let setup = Setup { history, ..SETUP };
+            let timed = timed(setup, Some(newest), 3);
+            let state = State { marks: row.marks(), first: None, ..timed };
+            let was = std::mem::replace(&mut row.marks[late.into()], true);
+            let (answer, ticks_left, order) =
+                if was { (AHZ_DISCARD, 3, 0) } else { (AHZ_PASS, 10, 1) };
+            let discarded = u64::from(was);
+            let counters =
+                Counters { passed: 1 - discarded, discarded, order, ..Counters::default() };
+            let marks = row.marks();
+            let next = State { marks, ticks_left: Ticks(ticks_left), counters, ..state };
+            let number = newest.wrapping_sub(late);
+            assert_eq!(packet(&state, Some(number)), (answer, next), "H {history}, {late} late");
+            passed += u64::from(!was);
             cases += 1;
         }
     }
-    assert!(wraps > cases / 8, "numbers and lost were to wrap: {wraps}");
-    assert!(wraps_before_first > cases / 16, "before-first was to wrap: {wraps_before_first}");
-    report("slides", cases);
+    assert!(passed > cases / 3 && passed < cases, "both answers were wanted: {passed}");
+    report("late packets, every H", cases);
 }
 
-/// What H 4 gives up after a first packet 10, whose window begins at 7, by hand: how many places are lost,
-/// how many of them before the first, and the mark of the first place where the window still has it. The
-/// same lists go round the wrap; and each is run again after a reset and after a timeout, which start the
-/// first place anew and keep the counters. Under match nothing is lost, and no first place is kept.
+/// By hand, what H 4 gives up after a first packet 10, whose window begins at 7, and H 512 after a first
+/// packet 1,000, whose window begins at 489: how many places are lost, how many of them before the first,
+/// and the mark of the first place where the window still has it. The same lists go round the wrap; and
+/// each is run again after a reset and after a timeout, which start the first place anew and keep the
+/// counters. Under match nothing is lost, and no first place is kept.
 #[test]
 fn holes_before_the_first_packet() {
     for (numbers, lost, before_first, first) in [
@@ -376,9 +491,20 @@ fn holes_before_the_first_packet() {
         (&[10, 9, 13], 2, 2, Some(3)),
         (&[10, 9, 8, 7, 13, 16], 2, 0, None),
         (&[10, 11, 12, 13, 14, 16, 19], 4, 3, None), // 15, long after the first
+        (&[1_000], 0, 0, Some(0)),
+        (&[1_000, 1_064], 64, 64, Some(64)), // from 489 to 552
+        (&[1_000, 1_511], 511, 511, Some(511)),
+        (&[1_000, 1_511, 1_512], 511, 511, None), // 1,000 leaves, which is not lost
+        (&[1_000, 1_511, 1_576], 575, 511, None), // and 1,001 to 1,064
+        (&[1_000, 1_256, 745, 1_300], 299, 299, Some(300)), // 745 came late, 511 below
+        (&[1_000, 1_256, 808, 1_320], 319, 319, Some(320)), // 745 to 807, and 808 came late
+        (&[1_000, 1_256, 1_767], 766, 511, None), // 745 to 999 and 1,001 to 1,255 in one slide
     ] {
+        let history = if numbers[0] == 10 { 4 } else { 512 };
         for (rule, shift) in [(VECTOR, 0), (VECTOR, 65_526), (VECTOR, 65_523), (MATCH, 0)] {
-            let mut kept = Kept::of(&State::fresh(Setup { rule, ..SETUP }).unwrap());
+            let shift = if history == 4 || shift == 0 { shift } else { shift - 1_200 };
+            let setup = Setup { rule, history, ..SETUP };
+            let mut kept = Kept::of(&State::fresh(setup).unwrap());
             for rounds in 1..=3 {
                 for number in numbers {
                     let number = number.wrapping_add(shift);

@@ -134,7 +134,7 @@ fn faults_of_the_setup() {
     assert_eq!(printed(&tape), "fault 18\n");
     tape[6..10].copy_from_slice(&3_600_001u32.to_be_bytes());
     assert_eq!(printed(&tape), "fault 17\n");
-    tape[4..6].copy_from_slice(&65u16.to_be_bytes());
+    tape[4..6].copy_from_slice(&513u16.to_be_bytes());
     assert_eq!(printed(&tape), "fault 16\n");
     tape[USE] = 2;
     assert_eq!(printed(&tape), "fault 27\n");
@@ -158,7 +158,8 @@ fn every_use_of_a_setup() {
 }
 
 /// A setup of 15 octets, without a use, as tapes once had it: cut where nothing comes behind it, and
-/// else out of range, since its history length is read as 256 times that.
+/// else out of range, since its history length is read as 256 times that. Only one of 2 is then in
+/// range, as 512, and what is read behind it decides.
 #[test]
 fn a_setup_without_a_use() {
     let mut old = SETUP.to_vec();
@@ -168,10 +169,89 @@ fn a_setup_without_a_use() {
     }) {
         (old[1], old[2], old[4]) = (rule, taken, history);
         assert_eq!(printed(&old), "fault 24\n");
+        // 100 ticks per second and 2 paths are 25,602 ticks per second.
+        let fault = if history == 2 { "fault 18\n" } else { "fault 16\n" };
         for event in [&[1, 0, 10][..], &[2], &[3], &[4], &[5], &[6], &SETUP] {
-            assert_eq!(printed(&[&old, event].concat()), "fault 16\n", "{history}, {event:?}");
+            assert_eq!(printed(&[&old, event].concat()), fault, "{history}, {event:?}");
         }
     }
+    // A history length of 2, 1 ms, 1 tick per second, 2 paths and a difference of 2^25: with one tick
+    // behind it, it reads as 512, 256 ms, 258 ticks per second, 2 paths and a difference of 3.
+    let misread = [0x0F, 0, 0, 0, 2, 0, 0, 0, 1, 0, 1, 2, 2, 0, 0, 0, 3];
+    assert_eq!(printed(&misread), format!("ok\n{NOTHING}"));
+}
+
+/// The setup with that history length and rule.
+fn with_history(history: u16, rule: u8) -> Vec<u8> {
+    let mut tape = SETUP.to_vec();
+    tape[1] = rule;
+    tape[4..6].copy_from_slice(&history.to_be_bytes());
+    tape
+}
+
+fn numbered(numbers: impl IntoIterator<Item = u16>) -> Vec<u8> {
+    let event = |number: u16| [1, (number >> 8) as u8, number as u8];
+    numbers.into_iter().flat_map(event).collect()
+}
+
+/// "H 2 to 512": every length, and those about it, under both rules.
+#[test]
+fn every_history_length() {
+    for (history, rule) in (0..=600).flat_map(|history| [0, 1].map(|rule| (history, rule))) {
+        let good = (2..=512).contains(&history);
+        let expected = if good { format!("ok\n{NOTHING}") } else { "fault 16\n".into() };
+        assert_eq!(printed(&with_history(history, rule)), expected, "{history}, rule {rule}");
+    }
+    for history in [1_024, 16_384, 32_768, 65_535] {
+        assert_eq!(printed(&with_history(history, 0)), "fault 16\n", "{history}");
+        assert_eq!(printed(&with_history(history, 1)), "fault 16\n", "{history}");
+    }
+}
+
+/// H 512 across the wrap, by hand. The first is 65,300; 275 is 511 ahead and gives up the 511 places
+/// below the first. 65,301 comes 510 late and passes; 65,300 is there; 65,299 is too far. 340 is 65 ahead
+/// and gives up 65,300 to 65,364, of which two have passed. 65,535 comes late. 788 is 448 ahead and gives
+/// up 65,365 to 276, of which 65,535 and 275 have passed.
+#[test]
+fn the_longest_history_across_the_wrap() {
+    let mut tape = with_history(512, 0);
+    tape.extend(numbered([65_300, 275, 65_301, 65_300, 65_299, 340, 65_535, 788]));
+    assert_eq!(
+        printed(&tape),
+        "ok\npass\npass\npass\ndiscard\ndiscard\npass\npass\npass\n\
+         passed=6 discarded=2 order=5 rogue=1 lost=1020 tagless=0 resets=0 latent-resets=0 \
+         before-first=511\n"
+    );
+}
+
+/// "A ring with a slow arm needs 512 places": from the 500th on, the numbers come again 500 places
+/// behind, and none of them passes twice. With 64 places each of these is a rogue.
+#[test]
+fn a_slow_arm_500_places_behind() {
+    let mut numbers = Vec::new();
+    for place in 0..600 {
+        let number = 65_100u16.wrapping_add(place);
+        // The fast arm leaves out every tenth number.
+        numbers.extend(Some(number).filter(|number| number % 10 != 5));
+        numbers.extend((place >= 500).then_some(number.wrapping_sub(500)));
+    }
+    let both = |history| {
+        let tape = [with_history(history, 0), numbered(numbers.iter().copied())].concat();
+        printed(&tape).lines().last().expect("a last line").to_owned()
+    };
+    // 540 come by the fast arm, with 60 gaps. Of the 100 that come by the slow arm, 10 fill a gap, in
+    // time: no place above the first is lost.
+    assert_eq!(
+        both(512),
+        "passed=550 discarded=90 order=70 rogue=0 lost=511 tagless=0 resets=0 latent-resets=0 \
+         before-first=511"
+    );
+    // 54 gaps have left a window that ends at 163 and begins at 100.
+    assert_eq!(
+        both(64),
+        "passed=540 discarded=100 order=60 rogue=100 lost=117 tagless=0 resets=0 latent-resets=0 \
+         before-first=63"
+    );
 }
 
 /// A sender that is stuck on one number, and one that sends none where none is taken: the same packets

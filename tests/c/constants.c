@@ -6,8 +6,8 @@
 #define HOLDS(what) typedef char NAMED(__LINE__)[(what) ? 1 : -1]
 
 /* The version, as the preprocessor sees it too. */
-#if AHZ_VERSION != 196608 || AHZ_VERSION_MAJOR != 3 || AHZ_VERSION_MINOR != 0
-#error "the version is not 3.0"
+#if AHZ_VERSION != 262144 || AHZ_VERSION_MAJOR != 4 || AHZ_VERSION_MINOR != 0
+#error "the version is not 4.0"
 #endif
 
 /* When the layer says no. */
@@ -40,29 +40,30 @@ HOLDS(AHZ_ENTRY_OCTETS == 1 + 6 + 1 + 2 + 2 && AHZ_TABLE_ENTRIES == 256 && AHZ_T
 /* Numbering and recovery. */
 HOLDS(AHZ_RULE_VECTOR == 0 && AHZ_RULE_MATCH == 1 && AHZ_NOT_TAKEN == 0 && AHZ_TAKEN == 1);
 HOLDS(AHZ_USE_SEQUENCE == 0 && AHZ_USE_INDIVIDUAL == 1);
-HOLDS(AHZ_HISTORY_LEAST == 2 && AHZ_HISTORY_MOST == 64 && AHZ_MILLISECONDS_LEAST == 1 && AHZ_MILLISECONDS_MOST == 3600000);
+HOLDS(AHZ_HISTORY_LEAST == 2 && AHZ_HISTORY_MOST == 512 && AHZ_MILLISECONDS_LEAST == 1 && AHZ_MILLISECONDS_MOST == 3600000);
 HOLDS(AHZ_RATE_LEAST == 1 && AHZ_RATE_MOST == 10000 && AHZ_PATHS_LEAST == 2 && AHZ_PATHS_MOST == 8);
 
-/* A state: a format, eight numbers of a setup, five of the window and the timer, nine counters, a base. */
-HOLDS(AHZ_STATE_FORMAT == (('A' * 256 + 'H') * 256 + 'Z') * 256 + 3);
+/* A state: a format, eight numbers of a setup, four of the window and the timer, the marks, nine counters, a base. */
+HOLDS(AHZ_STATE_FORMAT == (('A' * 256 + 'H') * 256 + 'Z') * 256 + 4);
 HOLDS(AHZ_S_FORMAT == 0 && AHZ_S_RULE == 1 && AHZ_S_TAKEN == 2 && AHZ_S_USE == 3 && AHZ_S_HISTORY == 4 && AHZ_S_MILLISECONDS == 5);
 HOLDS(AHZ_S_RATE == 6 && AHZ_S_PATHS == 7 && AHZ_S_DIFFERENCE == 8);
-HOLDS(AHZ_S_NEWEST == 9 && AHZ_S_MARKS == 10 && AHZ_S_FIRST == 11 && AHZ_S_TAKE_ANY == 12 && AHZ_S_LEFT == 13);
-HOLDS(AHZ_S_PASSED == 14 && AHZ_S_DISCARDED == 15 && AHZ_S_ORDER == 16 && AHZ_S_ROGUE == 17 && AHZ_S_LOST == 18 && AHZ_S_TAGLESS == 19);
-HOLDS(AHZ_S_RESETS == 20 && AHZ_S_LATENT_RESETS == 21 && AHZ_S_BEFORE_FIRST == 22 && AHZ_S_BASE == 23);
-HOLDS(AHZ_S_WORDS == 1 + 8 + 5 + 9 + 1);
+HOLDS(AHZ_S_NEWEST == 9 && AHZ_S_MARKS == 10 && AHZ_MARK_WORDS == 8 && AHZ_MARK_WORDS * 64 == AHZ_HISTORY_MOST);
+HOLDS(AHZ_S_FIRST == 18 && AHZ_S_TAKE_ANY == 19 && AHZ_S_LEFT == 20);
+HOLDS(AHZ_S_PASSED == 21 && AHZ_S_DISCARDED == 22 && AHZ_S_ORDER == 23 && AHZ_S_ROGUE == 24 && AHZ_S_LOST == 25 && AHZ_S_TAGLESS == 26);
+HOLDS(AHZ_S_RESETS == 27 && AHZ_S_LATENT_RESETS == 28 && AHZ_S_BEFORE_FIRST == 29 && AHZ_S_BASE == 30);
+HOLDS(AHZ_S_WORDS == 1 + 8 + 4 + 8 + 9 + 1);
 
 /* Charge cards, and the bench tape, of which 13 octets are the longest line for one octet and 265 the longest line of all. */
 HOLDS(AHZ_CARD_END == 0x00 && AHZ_CARD_FLUSH_ORDER == 0x10 && AHZ_CARD_RAW_CODE == 0x11 && AHZ_CARD_MILLIVOLTS == 0x12);
 HOLDS(AHZ_FLUSH_ORDER_OCTETS == 1 + 4 && AHZ_RAW_CODE_OCTETS == 1 + 2 && AHZ_MILLIVOLTS_OCTETS == 1 + 2);
 HOLDS(AHZ_EVENT_NUMBERED == 1 && AHZ_EVENT_TAGLESS == 2 && AHZ_EVENT_TICK == 3 && AHZ_EVENT_RESET == 4);
 HOLDS(AHZ_EVENT_LATENT_RESET == 5 && AHZ_EVENT_LATENT_TEST == 6 && AHZ_EVENT_SETUP == 0x0F);
-HOLDS(AHZ_TAPE_LONGEST == 4096 && AHZ_TAPE_OUTPUT == 13 * 4096 + 265 && AHZ_TAPE_STACK == 54784 && AHZ_STACK == 256);
+HOLDS(AHZ_TAPE_LONGEST == 4096 && AHZ_TAPE_OUTPUT == 13 * 4096 + 265 && AHZ_TAPE_STACK == 55296 && AHZ_STACK == 512);
 
 /* A unit is its number, and a state and a header are their words, so that each can be stored. */
 HOLDS(sizeof(ahz_milliseconds_t) == 4 && sizeof(ahz_rate_t) == 2 && sizeof(ahz_ticks_t) == 8 && sizeof(ahz_volts_t) == 8);
 HOLDS(sizeof(ahz_raw_code_t) == 2 && sizeof(ahz_millivolts_t) == 2 && sizeof(ahz_blocks_t) == 4);
-HOLDS(sizeof(ahz_generator_t) == 2 && sizeof(ahz_state_t) == 24 * 8 && sizeof(ahz_header_t) == 8 * 8 && sizeof(ahz_counters_t) == 9 * 8);
+HOLDS(sizeof(ahz_generator_t) == 2 && sizeof(ahz_state_t) == 31 * 8 && sizeof(ahz_header_t) == 8 * 8 && sizeof(ahz_counters_t) == 9 * 8);
 
 /* A setup that a compiler works out, so that a program may keep it in flash. */
 #define SETUP {AHZ_RULE_MATCH, AHZ_TAKEN, AHZ_USE_INDIVIDUAL, 8, AHZ_MS(AHZ_MILLISECONDS_MOST), AHZ_PER_SECOND(AHZ_RATE_MOST), 2, 1}

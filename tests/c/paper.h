@@ -1,6 +1,6 @@
-/* Document 01 as small functions, with document 02's CR 2, the use, and CR 7, holes before the first packet. They say what is expected of
- * the layer, are written from the papers, and are slow and plain: no bit is counted at once, and marks are an array. None of them calls
- * the layer. */
+/* Document 01 as small functions, with document 02's CR 2, the use, CR 4, the longer history, and CR 7, holes before the first packet. They
+ * say what is expected of the layer, are written from the papers, and are slow and plain: no bit is counted at once, and marks are an
+ * array. None of them calls the layer. */
 #ifndef PAPER_H
 #define PAPER_H
 
@@ -94,7 +94,7 @@ typedef struct {
 
 typedef struct {
     PaperSetup setup;
-    uint64_t newest, marks[64], take_any, left;
+    uint64_t newest, marks[512], take_any, left;
     uint64_t first; /* the first packet's place: 1 where it is the newest, one more for each place below it, 0 outside the window */
     uint64_t passed, discarded, order, rogue, lost, tagless, resets, latent_resets, before_first, base;
 } PaperState;
@@ -107,7 +107,7 @@ static inline uint8_t paper_check_setup(PaperSetup setup) {
     if (setup.rule > 1) return 15;
     if (setup.taken > 1) return 27;
     if (setup.use > 1) return 27;
-    if (setup.history < 2 || setup.history > 64) return 16;
+    if (setup.history < 2 || setup.history > 512) return 16; /* "Raise H to 512; refusal 16 and the sound state follow." */
     if (setup.ms < 1 || setup.ms > 3600000) return 17;
     if (setup.rate < 1 || setup.rate > 10000) return 18;
     if (setup.paths < 2 || setup.paths > 8) return 19;
@@ -131,21 +131,23 @@ static inline PaperState paper_fresh(PaperSetup setup) {
     return state;
 }
 
-/* Where each word of a state is kept; not the format, 0, nor the marks, 10. */
+/* Where each word of a state is kept; not the format, 0, nor the marks, 10 to 17. */
 static inline uint64_t *paper_field(PaperState *state, unsigned word) {
-    uint64_t *const fields[] = {&state->setup.rule, &state->setup.taken, &state->setup.use, &state->setup.history, &state->setup.ms,
-                                &state->setup.rate, &state->setup.paths, &state->setup.difference, &state->newest, NULL, &state->first,
-                                &state->take_any, &state->left, &state->passed, &state->discarded, &state->order, &state->rogue,
-                                &state->lost, &state->tagless, &state->resets, &state->latent_resets, &state->before_first, &state->base};
-    return word == 0 ? NULL : fields[word - 1];
+    uint64_t *const before[] = {&state->setup.rule, &state->setup.taken, &state->setup.use, &state->setup.history, &state->setup.ms,
+                                &state->setup.rate, &state->setup.paths, &state->setup.difference, &state->newest};
+    uint64_t *const behind[] = {&state->first, &state->take_any, &state->left, &state->passed, &state->discarded, &state->order,
+                                &state->rogue, &state->lost, &state->tagless, &state->resets, &state->latent_resets, &state->before_first,
+                                &state->base};
+    if (word == 0 || (word >= 10 && word <= 17)) return NULL;
+    return word < 10 ? before[word - 1] : behind[word - 18];
 }
 
 static inline void paper_words(PaperState *state, uint64_t *words) {
     unsigned k;
-    words[0] = 0x41485A03;
-    words[10] = 0;
-    for (k = 0; k < 64; k++) words[10] += state->marks[k] << k;
-    for (k = 0; k < 24; k++) {
+    words[0] = 0x41485A04;
+    for (k = 10; k <= 17; k++) words[k] = 0;
+    for (k = 0; k < 512; k++) words[10 + k / 64] += state->marks[k] << k % 64;
+    for (k = 0; k < 31; k++) {
         if (paper_field(state, k) != NULL) words[k] = *paper_field(state, k);
     }
 }
@@ -154,15 +156,15 @@ static inline void paper_words(PaperState *state, uint64_t *words) {
 static inline int paper_state(const uint64_t *words, PaperState *state) {
     uint64_t any_mark = 0;
     unsigned k;
-    for (k = 0; k < 24; k++) {
+    for (k = 0; k < 31; k++) {
         if (paper_field(state, k) != NULL) *paper_field(state, k) = words[k];
     }
-    for (k = 0; k < 64; k++) {
-        state->marks[k] = words[10] >> k & 1;
+    for (k = 0; k < 512; k++) {
+        state->marks[k] = words[10 + k / 64] >> k % 64 & 1;
         any_mark |= state->marks[k];
     }
-    if (words[0] != 0x41485A03 || paper_check_setup(state->setup) != 0 || state->setup.difference > UINT32_MAX) return 0;
-    for (k = 0; k < 64; k++) {
+    if (words[0] != 0x41485A04 || paper_check_setup(state->setup) != 0 || state->setup.difference > UINT32_MAX) return 0;
+    for (k = 0; k < 512; k++) {
         if (k >= state->setup.history && state->marks[k] == 1) return 0;
     }
     if (state->newest > 65535 || state->take_any > 1) return 0;

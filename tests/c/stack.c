@@ -51,6 +51,9 @@ enum { FRAMES = sizeof frames / sizeof frames[0] };
 static const uint8_t table[] = {2, 0x02, 0, 0, 0, 0, 0x06, 1, 0, 5, 0, 8, 1, 0x02, 0, 0, 0, 0, 0x07, 3, 0, 0, 0, 7};
 static const uint8_t payload[] = {0x10, 0, 0, 0, 1, 0x11, 0, 10, 0x12, 0x0F, 0xA0, 0x00, 0x13};
 static const uint8_t tape[] = {0x0F, 0, 0, 0, 0, 4, 0, 0, 0, 100, 0, 100, 2, 0, 0, 0, 1, 1, 0, 10, 1, 0, 10, 2, 3, 1, 0, 20, 4, 5, 6};
+/* H 512: slides over some words and over all, late packets, one that is too far. */
+static const uint8_t long_tape[] = {0x0F, 0, 0, 0, 2, 0, 0, 0, 0, 100, 0, 100, 2, 0, 0, 0, 1, 1, 0, 10, 1, 1, 0, 1, 0, 200, 1, 2, 0xFF,
+                                    1, 1, 1, 1, 2, 0xFE, 1, 0, 0};
 
 static uint64_t state[AHZ_S_WORDS], header[AHZ_H_WORDS];
 static uint8_t out[AHZ_TAPE_OUTPUT];
@@ -89,21 +92,24 @@ static void setup_check(void) {
     for (i = 0; i < 3; i++) answer = ahz_check_setup_v2((uint8_t)i, 0, 0, 8, 100, 100, 2, 1);
 }
 static void fresh(void) {
-    for (i = 0; i < 3; i++) answer = ahz_fresh_v3((uint8_t)(2 - i), 0, 0, 8, 100, 100, 2, 1, state, AHZ_S_WORDS);
+    for (i = 0; i < 3; i++) answer = ahz_fresh_v4((uint8_t)(2 - i), 0, 0, 8, 100, 100, 2, 1, state, AHZ_S_WORDS);
 }
-/* Under both rules and in both uses: a first packet, then each difference, near and far; and a state that is not sound. */
+/* Under both rules and in both uses, with a short window and the longest: a first packet, then each difference, near and far; and a state
+ * that is not sound. */
 static void packets(void) {
     for (rule = 0; rule < 2; rule++) {
         for (use = 0; use < 2; use++) {
-            answer = ahz_fresh_v3((uint8_t)rule, 0, (uint8_t)use, 8, 100, 100, 2, 1, state, AHZ_S_WORDS);
+            answer = ahz_fresh_v4((uint8_t)rule, 0, (uint8_t)use, 8, 100, 100, 2, 1, state, AHZ_S_WORDS);
             for (i = 0; i < 40; i++) answer = ahz_numbered(state, AHZ_S_WORDS, (uint16_t)(i * 7 % 20 + i));
+            answer = ahz_fresh_v4((uint8_t)rule, 0, (uint8_t)use, AHZ_HISTORY_MOST, 100, 100, 2, 1, state, AHZ_S_WORDS);
+            for (i = 0; i < 400; i++) answer = ahz_numbered(state, AHZ_S_WORDS, (uint16_t)(i * 211 % 600 + i));
         }
     }
     answer = ahz_numbered(state, 0, 0);
 }
 static void tagless(void) {
-    for (i = 0; i < 4; i++) {
-        answer = ahz_fresh_v3(0, (uint8_t)(i % 2), (uint8_t)(i / 2), 8, 100, 100, 2, 1, state, AHZ_S_WORDS);
+    for (i = 0; i < 8; i++) {
+        answer = ahz_fresh_v4(0, (uint8_t)(i % 2), (uint8_t)(i / 2 % 2), i < 4 ? 8 : AHZ_HISTORY_MOST, 100, 100, 2, 1, state, AHZ_S_WORDS);
         answer = ahz_tagless(state, AHZ_S_WORDS);
     }
     answer = ahz_tagless(state, 0);
@@ -139,6 +145,7 @@ static void reading_volts(void) {
 static void bench(void) {
     for (i = 0; i <= sizeof tape; i++) answer = ahz_tape_v3(tape, i, out, sizeof out, &length);
     answer = ahz_tape_v3(tape, sizeof tape, out, 0, &length);
+    answer = ahz_tape_v3(long_tape, sizeof long_tape, out, sizeof out, &length);
 }
 
 int main(void) {
@@ -153,7 +160,7 @@ int main(void) {
         {"ahz_lookup", lookup, AHZ_STACK},           {"ahz_generator", generator, AHZ_STACK},
         {"ahz_generate", generation, AHZ_STACK},     {"ahz_generator_reset", generator_reset, AHZ_STACK},
         {"ahz_ticks", ticks, AHZ_STACK},             {"ahz_check_setup_v2", setup_check, AHZ_STACK},
-        {"ahz_fresh_v3", fresh, AHZ_STACK},          {"ahz_numbered", packets, AHZ_STACK},
+        {"ahz_fresh_v4", fresh, AHZ_STACK},          {"ahz_numbered", packets, AHZ_STACK},
         {"ahz_tagless", tagless, AHZ_STACK},         {"ahz_tick", tick, AHZ_STACK},
         {"ahz_reset", resets, AHZ_STACK},            {"ahz_latent_reset", latent_reset, AHZ_STACK},
         {"ahz_latent_test", latent_test, AHZ_STACK}, {"ahz_card", card, AHZ_STACK},

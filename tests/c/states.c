@@ -1,4 +1,4 @@
-/* Numbering, ticks, setups and recovery, and their typed forms: all 24 words of a state after each event against the papers, in long runs
+/* Numbering, ticks, setups and recovery, and their typed forms: all 31 words of a state after each event against the papers, in long runs
  * of events from fresh states, and from states of every kind, sound and not, with counters that wrap. */
 #include "check.h"
 #include "paper.h"
@@ -48,7 +48,7 @@ static void ticks(void) {
 
 /* A setup alone, and for a fresh state in so many words, both as bare numbers and typed. */
 static void expect_setup(PaperSetup s, size_t words) {
-    const uint8_t refusal = paper_check_setup(s), answer = refusal == 0 && words < 24 ? 8 : refusal;
+    const uint8_t refusal = paper_check_setup(s), answer = refusal == 0 && words < 31 ? 8 : refusal;
     const uint8_t rule = (uint8_t)s.rule, taken = (uint8_t)s.taken, use = (uint8_t)s.use, paths = (uint8_t)s.paths;
     const uint16_t history = (uint16_t)s.history, rate = (uint16_t)s.rate;
     const uint32_t ms = (uint32_t)s.ms, difference = (uint32_t)s.difference;
@@ -65,7 +65,7 @@ static void expect_setup(PaperSetup s, size_t words) {
     setup.paths = paths;
     setup.difference = difference;
     EXPECT(ahz_check_setup_v2(rule, taken, use, history, ms, rate, paths, difference) == refusal && ahz_setup_check(setup) == refusal);
-    EXPECT(ahz_fresh_v3(rule, taken, use, history, ms, rate, paths, difference, lent, words) == answer);
+    EXPECT(ahz_fresh_v4(rule, taken, use, history, ms, rate, paths, difference, lent, words) == answer);
     EXPECT(holds(&space, expected, answer == 0 ? sizeof expected : 0));
     if (words == AHZ_S_WORDS) {
         ahz_state_t *typed = (ahz_state_t *)lend_aligned(&space, NULL, sizeof(ahz_state_t));
@@ -84,7 +84,7 @@ static size_t digit(size_t *number, size_t base) {
  * a record, and every use. */
 static void setups(void) {
     static const uint8_t flags[] = {0, 1, 2, 255}, paths[] = {0, 1, 2, 3, 8, 9, 255};
-    static const uint16_t histories[] = {0, 1, 2, 64, 65, 258, 65535}, rates[] = {0, 1, 333, 10000, 10001, 65535};
+    static const uint16_t histories[] = {0, 1, 2, 65, 512, 513, 1026, 65535}, rates[] = {0, 1, 333, 10000, 10001, 65535};
     static const uint32_t ms[] = {0, 1, 3600000, 3600001, 0x80000000, 0x80000001}, differences[] = {0, 1, 0x80000000, 0xFFFFFFFF};
     const size_t all = COUNT(flags) * COUNT(flags) * COUNT(flags) * COUNT(histories) * COUNT(ms) * COUNT(rates) * COUNT(paths);
     PaperSetup s, good = {0, 0, 0, 4, 100, 100, 2, 1};
@@ -100,20 +100,34 @@ static void setups(void) {
         s.paths = paths[digit(&rest, COUNT(paths))];
         s.difference = differences[roll() % COUNT(differences)];
         expect_setup(s, AHZ_S_WORDS);
-        if (roll() % 16 == 0) expect_setup(s, roll() % 29);
+        if (roll() % 16 == 0) expect_setup(s, roll() % 36);
     }
-    for (n = 0; n < 29; n++) expect_setup(good, n);
+    for (n = 0; n < 36; n++) expect_setup(good, n);
     for (n = 0; n < 256; n++) {
         good.use = n;
         expect_setup(good, AHZ_S_WORDS);
     }
 }
 
+/* Every history length under both rules: 2 to 512 are taken, and a fresh state holds what it is given. */
+static void histories(void) {
+    PaperSetup s = {0, 0, 0, 0, 100, 100, 2, 1};
+    uint32_t history;
+    for (s.rule = 0; s.rule < 2; s.rule++) {
+        for (history = 0; history < 65536; history++) {
+            const uint8_t rule = (uint8_t)s.rule, answer = history >= 2 && history <= 512 ? AHZ_DONE : AHZ_R_HISTORY;
+            EXPECT(ahz_check_setup_v2(rule, 0, 0, (uint16_t)history, 100, 100, 2, 1) == answer);
+            s.history = history;
+            if (history < 600 || history % 512 < 2) expect_setup(s, AHZ_S_WORDS);
+        }
+    }
+}
+
 /* A setup with nothing right, and its numbers put right one after the other: the order of the refusals, written out. */
 static void setup_order(void) {
     static const uint8_t refusals[] = {15, 27, 27, 16, 17, 18, 19, 0};
-    static const uint64_t right[] = {1, 1, 1, 64, 3600000, 10000, 8};
-    PaperSetup s = {2, 2, 2, 65, 3600001, 10001, 9, 1};
+    static const uint64_t right[] = {1, 1, 1, 512, 3600000, 10000, 8};
+    PaperSetup s = {2, 2, 2, 513, 3600001, 10001, 9, 1};
     uint64_t *const numbers[] = {&s.rule, &s.taken, &s.use, &s.history, &s.ms, &s.rate, &s.paths};
     size_t i;
     for (i = 0; i < COUNT(refusals); i++) {
@@ -175,10 +189,10 @@ static uint8_t expect_event(uint64_t *words, uint8_t kind, uint16_t number) {
     return answer;
 }
 
-/* One of each kind on the same words, the packets near the newest number, about the ends of the window, and far away. */
+/* One of each kind on the same words, the packets near the newest number, about the ends of the window and of a word, and far away. */
 static void expect_each(const uint64_t *words) {
     const int history = (int)words[AHZ_S_HISTORY];
-    const int near[] = {0, 1, -1, 2, history - 1, history, 1 - history, -history, 32767, -32768, -32767};
+    const int near[] = {0, 1, -1, 2, 63, 64, -63, -64, 128, -448, history - 1, history, 1 - history, -history, 32767, -32768, -32767};
     uint64_t copy[AHZ_S_WORDS];
     size_t i;
     uint8_t kind;
@@ -193,7 +207,7 @@ static void expect_each(const uint64_t *words) {
 }
 
 static PaperSetup any_setup(void) {
-    static const uint8_t histories[] = {2, 4, 64, 3, 63, 33};
+    static const uint16_t lengths[] = {2, 4, 64, 3, 63, 33, 512, 65, 128, 511, 129, 449};
     static const uint32_t timeouts[][2] = {{1, 1}, {2, 1000}, {100, 100}, {3600000, 10000}, {3, 333}, {3600000, 9999}};
     static const uint32_t differences[] = {0, 1, 5, 0x80000000, 0xFFFFFFFF};
     const size_t timeout = roll() % COUNT(timeouts);
@@ -201,7 +215,7 @@ static PaperSetup any_setup(void) {
     s.rule = roll() % 2;
     s.taken = roll() % 2;
     s.use = roll() % 2;
-    s.history = histories[roll() % COUNT(histories)];
+    s.history = lengths[roll() % COUNT(lengths)];
     s.ms = timeouts[timeout][0];
     s.rate = timeouts[timeout][1];
     s.paths = 2 + roll() % 7;
@@ -291,9 +305,9 @@ static void single_events(void) {
 
 /* Words of sound states, one of them changed to a number about the edges of its range or beyond its field. */
 static void unsound(void) {
-    static const uint64_t numbers[] = {0, 1, 2, 3, 4, 7, 8, 9, 63, 64, 65, 255, 256, 257, 258, 9999, 10000, 10001, 65534, 65535, 65536,
-                                       3600000, 3600001, UINT32_MAX, UINT64_C(1) << 32, (UINT64_C(1) << 32) + 1, UINT64_C(1) << 63,
-                                       UINT64_MAX, 0x41485A02, 0x41485A04, 0x035A4841};
+    static const uint64_t numbers[] = {0, 1, 2, 3, 4, 7, 8, 9, 63, 64, 65, 255, 256, 257, 258, 511, 512, 513, 9999, 10000, 10001, 65534,
+                                       65535, 65536, 3600000, 3600001, UINT32_MAX, UINT64_C(1) << 32, (UINT64_C(1) << 32) + 1,
+                                       UINT64_C(1) << 63, UINT64_MAX, 0x41485A03, 0x41485A05, 0x045A4841};
     unsigned n, word, refused = 0;
     size_t i;
     for (n = 0; n < 12; n++) {
@@ -312,7 +326,7 @@ static void unsound(void) {
         for (word = 0; word <= AHZ_S_LEFT; word++) {
             const uint64_t full = paper_ticks(state.setup.ms, state.setup.rate), was = words[word];
             const uint64_t own[] = {was ^ 1, was + 256, was + 65536, was + (UINT64_C(1) << 32), was | UINT64_C(1) << 63, full, full + 1,
-                                    was | UINT64_C(1) << state.setup.history % 64, was | UINT64_C(1) << (state.setup.history - 1)};
+                                    was | UINT64_C(1) << state.setup.history % 64, was | UINT64_C(1) << (state.setup.history - 1) % 64};
             for (i = 0; i < COUNT(numbers) + COUNT(own); i++) {
                 memcpy(other, words, sizeof other);
                 other[word] = i < COUNT(numbers) ? numbers[i] : own[i - COUNT(numbers)];
@@ -324,11 +338,38 @@ static void unsound(void) {
     EXPECT(refused > 1000);
 }
 
-/* Every number about the ends of the window, and numbers that no place has, for the first place of states of every kind. It is sound where
- * there is none, and under vector where a number has been heard and the mark of that place is set; else every step refuses it. */
+/* "Marks at the history length and above clear", up to the 512th: one mark more in states of every kind, about the ends of the window and
+ * of each word. Within the window it is sound under vector where a number has been heard; else every step refuses it. */
+static void marks_beyond(void) {
+    unsigned n, k, sound[2] = {0, 0};
+    for (n = 0; n < 240; n++) {
+        PaperState state = any_state();
+        uint64_t words[AHZ_S_WORDS], other[AHZ_S_WORDS];
+        const unsigned history = (unsigned)state.setup.history;
+        const int heard = state.setup.rule == 0 && state.take_any == 0;
+        paper_words(&state, words);
+        for (k = 0; k < 512; k++) {
+            const int right = heard && k < history;
+            uint8_t kind;
+            if (k % 64 > 1 && k % 64 < 62 && k != history - 1 && k != history && k != 500) continue;
+            sound[right]++;
+            for (kind = 1; kind <= 6; kind++) {
+                memcpy(other, words, sizeof other);
+                other[AHZ_S_MARKS + k / 64] |= UINT64_C(1) << k % 64;
+                EXPECT((expect_event(other, kind, (uint16_t)(words[AHZ_S_NEWEST] + 1)) == AHZ_R_STATE) == !right);
+            }
+        }
+    }
+    EXPECT(sound[0] > 1000 && sound[1] > 500);
+}
+
+/* Every number about the ends of the window and of each word, and numbers that no place has, for the first place of states of every kind.
+ * It is sound where there is none, and under vector where a number has been heard and the mark of that place is set; else every step
+ * refuses it. */
 static void first_places(void) {
-    static const uint64_t beyond[] = {127, 128, 129, 255, 256, 257, 65535, 65536, 65537, UINT32_MAX, UINT64_C(1) << 32,
-                                      (UINT64_C(1) << 32) + 1, UINT64_C(1) << 63, (UINT64_C(1) << 63) + 1, UINT64_MAX};
+    static const uint64_t beyond[] = {1023, 1024, 1025, 65535, 65536, 65537, UINT32_MAX, UINT64_C(1) << 32, (UINT64_C(1) << 32) + 1,
+                                      (UINT64_C(1) << 32) + 512, UINT64_C(1) << 63, (UINT64_C(1) << 63) + 1, UINT64_MAX};
+    enum { PLACES = 516 };
     unsigned n, sound[2] = {0, 0};
     uint64_t i;
     uint8_t kind;
@@ -336,10 +377,11 @@ static void first_places(void) {
         PaperState state = any_state();
         uint64_t words[AHZ_S_WORDS], other[AHZ_S_WORDS];
         paper_words(&state, words);
-        for (i = 0; i < 68 + COUNT(beyond); i++) {
-            const uint64_t first = i < 68 ? i : beyond[i - 68];
+        for (i = 0; i < PLACES + COUNT(beyond); i++) {
+            const uint64_t first = i < PLACES ? i : beyond[i - PLACES], history = words[AHZ_S_HISTORY];
             const int heard = words[AHZ_S_RULE] == AHZ_RULE_VECTOR && words[AHZ_S_TAKE_ANY] == 0;
-            const int right = first == 0 || (heard && first <= words[AHZ_S_HISTORY] && (words[AHZ_S_MARKS] >> (first - 1) & 1) == 1);
+            const int right = first == 0 || (heard && first <= history && state.marks[first - 1] == 1);
+            if (i > 8 && i < PLACES && i % 64 > 2 && i % 64 < 62 && (i + 2 < history || i > history + 2)) continue;
             words[AHZ_S_FIRST] = first;
             sound[right]++;
             for (kind = 1; kind <= 6; kind++) {
@@ -368,30 +410,34 @@ static void shorter(void) {
 }
 
 /* The words that older versions had, by themselves and at the start of a longer record; and the words of this version under their formats.
- * Version 2 had no first place and no before-first, and version 1 no use either. */
+ * Version 3 had one word of marks, version 2 no before-first and no first place either, and version 1 no use. */
 static void older_versions(void) {
-    static const unsigned gone[] = {AHZ_S_BEFORE_FIRST, AHZ_S_FIRST, AHZ_S_USE};
+    static const struct {
+        unsigned version, place, count; /* so many words at that place, which the version lacks and the next one has */
+    } gone[] = {{3, AHZ_S_MARKS + 1, 7}, {2, 22, 1}, {2, 11, 1}, {1, AHZ_S_USE, 1}};
     unsigned n, k;
     for (n = 0; n < 100; n++) {
         PaperState state = any_state();
-        uint64_t words[AHZ_S_WORDS], old[AHZ_S_WORDS + 1] = {0};
+        uint64_t words[AHZ_S_WORDS], old[AHZ_S_WORDS + 7] = {0};
         size_t count;
         paper_words(&state, words);
         EXPECT(ahz_latent_test(words, AHZ_S_WORDS) != AHZ_R_STATE);
         memcpy(old, words, sizeof words);
         for (k = 0; k < COUNT(gone); k++) {
-            memmove(old + gone[k], old + gone[k] + 1, (AHZ_S_WORDS - gone[k]) * sizeof old[0]);
-            if (k == 0) continue;
-            words[0] = old[0] = 0x41485A03 - k;
-            expect_no_state(words, 24);
-            for (count = 21; count <= AHZ_S_WORDS + 1; count++) expect_no_state(old, count);
+            const unsigned from = gone[k].place + gone[k].count;
+            memmove(old + gone[k].place, old + from, (AHZ_S_WORDS - from) * sizeof old[0]);
+            if (k + 1 < COUNT(gone) && gone[k + 1].version == gone[k].version) continue;
+            words[0] = old[0] = 0x41485A00 + gone[k].version;
+            expect_no_state(words, AHZ_S_WORDS);
+            for (count = 21; count <= AHZ_S_WORDS + 7; count++) expect_no_state(old, count);
         }
+        EXPECT(old[20] == words[AHZ_S_BASE] && old[9] == words[AHZ_S_MARKS]);
     }
 }
 
 /* A fresh state of that setup; its full ticks are 10. */
 static void begin(uint64_t *words, unsigned rule, unsigned use, uint16_t history) {
-    EXPECT(ahz_fresh_v3((uint8_t)rule, AHZ_NOT_TAKEN, (uint8_t)use, history, 100, 100, 2, 1, words, AHZ_S_WORDS) == AHZ_DONE);
+    EXPECT(ahz_fresh_v4((uint8_t)rule, AHZ_NOT_TAKEN, (uint8_t)use, history, 100, 100, 2, 1, words, AHZ_S_WORDS) == AHZ_DONE);
 }
 
 /* The paper's edges, as it writes them: a rule, H, then numbers with their verdicts, order and rogue at the end. Both uses agree. */
@@ -407,6 +453,8 @@ static void edges(void) {
         {0, 4, {10, 13, 11}, 3, "ppp", 2, 0}, {0, 4, {10, 13, 10}, 3, "ppd", 1, 0},    {0, 4, {10, 13, 9}, 3, "ppd", 1, 1},
         {0, 4, {65535, 0}, 2, "pp", 0, 0},   {0, 64, {0, 65473}, 2, "pp", 1, 0},       {0, 64, {0, 65472}, 2, "pd", 0, 1},
         {0, 64, {0, 32768}, 2, "pd", 0, 1},  {1, 8, {5, 6, 5}, 3, "ppp", 1, 0},        {1, 8, {5, 5}, 2, "pd", 0, 0},
+        {0, 512, {0, 65025, 65024}, 3, "ppd", 1, 1}, {0, 512, {0, 65024}, 2, "pd", 0, 1}, {0, 512, {0, 511}, 2, "pp", 1, 0},
+        {0, 512, {0, 512}, 2, "pd", 0, 1},
     };
     size_t i, k;
     for (i = 0; i < 2 * COUNT(cases); i++) {
@@ -488,12 +536,138 @@ static void slides(void) {
     }
 }
 
+/* Slides in windows of several words, worked out by hand as well. Marks are ranges of them; mark 0, which stands where a list is shorter,
+ * is always set. */
+typedef struct {
+    uint16_t from, to;
+} Range;
+
+static void put_marks(uint64_t *words, const Range *ranges, size_t count) {
+    size_t i;
+    unsigned k;
+    memset(words + AHZ_S_MARKS, 0, AHZ_MARK_WORDS * sizeof words[0]);
+    for (i = 0; i < count; i++) {
+        for (k = ranges[i].from; k <= ranges[i].to; k++) words[AHZ_S_MARKS + k / 64] |= UINT64_C(1) << k % 64;
+    }
+}
+
+static void long_slides(void) {
+    static const struct {
+        uint16_t history, d;
+        Range marks[4];
+        uint64_t first;
+        Range later[4];
+        uint64_t later_first, lost, before;
+    } cases[] = {
+        {65, 1, {{0, 0}}, 1, {{0, 1}}, 2, 1, 1},                              /* one mark more than a word has */
+        {65, 1, {{0, 63}}, 64, {{0, 64}}, 65, 1, 1},
+        {65, 1, {{0, 64}}, 65, {{0, 64}}, 0, 0, 0},                           /* none comes to place 65 */
+        {65, 1, {{0, 0}, {64, 64}}, 65, {{0, 1}}, 0, 0, 0},
+        {65, 64, {{0, 0}}, 1, {{0, 0}, {64, 64}}, 65, 64, 64},
+        {65, 64, {{0, 64}}, 2, {{0, 0}, {64, 64}}, 0, 0, 0},
+        {127, 64, {{0, 62}}, 63, {{0, 0}, {64, 126}}, 127, 64, 64},
+        {128, 1, {{0, 127}}, 128, {{0, 127}}, 0, 0, 0},
+        {128, 63, {{0, 0}, {64, 64}}, 65, {{0, 0}, {63, 63}, {127, 127}}, 128, 63, 63},
+        {128, 64, {{0, 63}}, 64, {{0, 0}, {64, 127}}, 128, 64, 64},           /* a whole word */
+        {128, 64, {{0, 0}, {63, 64}}, 64, {{0, 0}, {64, 64}, {127, 127}}, 128, 63, 63},
+        {128, 65, {{0, 63}}, 64, {{0, 0}, {65, 127}}, 0, 64, 64},
+        {128, 127, {{0, 0}}, 1, {{0, 0}, {127, 127}}, 128, 127, 127},
+        {449, 1, {{0, 448}}, 1, {{0, 448}}, 2, 0, 0},                         /* none comes to place 449 */
+        {449, 1, {{0, 0}, {448, 448}}, 449, {{0, 1}}, 0, 0, 0},
+        {449, 448, {{0, 448}}, 449, {{0, 0}, {448, 448}}, 0, 0, 0},
+        {511, 1, {{0, 510}}, 511, {{0, 510}}, 0, 0, 0},
+        {511, 510, {{0, 0}}, 1, {{0, 0}, {510, 510}}, 511, 510, 510},
+        {512, 1, {{0, 0}}, 1, {{0, 1}}, 2, 1, 1},
+        {512, 1, {{0, 511}}, 512, {{0, 511}}, 0, 0, 0},
+        {512, 1, {{0, 0}, {511, 511}}, 512, {{0, 1}}, 0, 0, 0},               /* the last leaves */
+        {512, 1, {{0, 0}, {510, 510}}, 511, {{0, 1}, {511, 511}}, 512, 1, 1}, /* and the one before it becomes the last */
+        {512, 1, {{0, 63}, {127, 127}, {447, 448}}, 64, {{0, 64}, {128, 128}, {448, 449}}, 65, 1, 1},
+        {512, 64, {{0, 447}}, 448, {{0, 0}, {64, 511}}, 512, 64, 64},
+        {512, 64, {{0, 0}, {447, 448}}, 449, {{0, 0}, {64, 64}, {511, 511}}, 0, 63, 63},
+        {512, 256, {{0, 255}}, 256, {{0, 0}, {256, 511}}, 512, 256, 256},     /* four words */
+        {512, 320, {{0, 0}, {100, 191}, {300, 300}}, 301, {{0, 0}, {320, 320}, {420, 511}}, 0, 319, 211}, /* 108 above it */
+        {512, 448, {{0, 0}, {63, 64}}, 65, {{0, 0}, {448, 448}, {511, 511}}, 0, 447, 447},
+        {512, 500, {{0, 0}, {11, 12}}, 13, {{0, 0}, {500, 500}, {511, 511}}, 0, 499, 499},
+        {512, 511, {{0, 0}}, 1, {{0, 0}, {511, 511}}, 512, 511, 511},         /* all leave but the newest */
+        {512, 511, {{0, 0}}, 0, {{0, 0}, {511, 511}}, 0, 511, 0},
+        {512, 511, {{0, 511}}, 1, {{0, 0}, {511, 511}}, 512, 0, 0},
+        {512, 511, {{0, 0}, {2, 2}, {64, 64}, {511, 511}}, 65, {{0, 0}, {511, 511}}, 0, 508, 446},
+    };
+    size_t i;
+    for (i = 0; i < COUNT(cases); i++) {
+        const uint16_t d = cases[i].d, number = (uint16_t)(d - 1);
+        uint64_t words[AHZ_S_WORDS], expected[AHZ_S_WORDS];
+        begin(words, AHZ_RULE_VECTOR, AHZ_USE_SEQUENCE, cases[i].history);
+        words[AHZ_S_TAKE_ANY] = 0;
+        words[AHZ_S_LEFT] = 10;
+        words[AHZ_S_FIRST] = cases[i].first;
+        memcpy(expected, words, sizeof expected);
+        put_marks(words, cases[i].marks, COUNT(cases[i].marks));
+        put_marks(expected, cases[i].later, COUNT(cases[i].later));
+        expected[AHZ_S_NEWEST] = number;
+        expected[AHZ_S_FIRST] = cases[i].later_first;
+        expected[AHZ_S_PASSED] = 1;
+        expected[AHZ_S_ORDER] = d != 1;
+        expected[AHZ_S_LOST] = cases[i].lost;
+        expected[AHZ_S_BEFORE_FIRST] = cases[i].before;
+        EXPECT(expect_event(words, 1, number) == AHZ_PASS && memcmp(words, expected, sizeof expected) == 0);
+    }
+}
+
+/* Every number from the one that is too far ahead to the one that is too far behind, on marks without a pattern, with few holes and with
+ * many, against the paper: each slide and each late packet that a window has. */
+static void every_difference(void) {
+    static const uint16_t lengths[] = {63, 64, 65, 66, 127, 128, 129, 192, 449, 511, 512};
+    size_t i;
+    unsigned many;
+    for (i = 0; i < COUNT(lengths); i++) {
+        for (many = 0; many < 2; many++) {
+            const int history = lengths[i];
+            int d, passed = 0;
+            for (d = -history; d <= history; d++) {
+                PaperState state = any_state();
+                uint64_t words[AHZ_S_WORDS];
+                int k;
+                state.setup.rule = 0;
+                state.setup.history = (uint64_t)history;
+                state.take_any = 0;
+                state.left = 1;
+                for (k = 0; k < 512; k++) state.marks[k] = k == 0 || (k < history && (roll() % 8 == 0) == many);
+                state.first = 1 + roll() % (uint64_t)history;
+                state.marks[state.first - 1] = 1;
+                paper_words(&state, words);
+                passed += expect_event(words, 1, (uint16_t)(state.newest + (uint64_t)(int64_t)d)) == AHZ_PASS;
+            }
+            EXPECT(passed >= history - 1 && passed < 2 * history - 1);
+        }
+    }
+}
+
+/* A slow arm 500 places behind a fast one that drops every seventh packet: under H 512 each of those passes once, late, when the slow one
+ * brings it, and all else that it brings is a repeat. Nothing is lost but what lies below the first packet. */
+static void slow_arm(void) {
+    enum { BEHIND = 500, PACKETS = 3000 };
+    uint64_t words[AHZ_S_WORDS], late = 0;
+    unsigned n;
+    begin(words, AHZ_RULE_VECTOR, AHZ_USE_SEQUENCE, 512);
+    for (n = 0; n < PACKETS; n++) {
+        const uint16_t fast = (uint16_t)(65000 + n), slow = (uint16_t)(65000 + n - BEHIND);
+        if (n % 7 != 3) EXPECT(expect_event(words, 1, fast) == AHZ_PASS);
+        if (n < BEHIND) continue;
+        EXPECT(expect_event(words, 1, slow) == ((n - BEHIND) % 7 == 3 ? AHZ_PASS : AHZ_DISCARD));
+        late += (n - BEHIND) % 7 == 3;
+    }
+    EXPECT(late == 357 && words[AHZ_S_ROGUE] == 0 && words[AHZ_S_LOST] == 511 && words[AHZ_S_BEFORE_FIRST] == 511);
+    EXPECT(words[AHZ_S_PASSED] == PACKETS - 429 + late && words[AHZ_S_DISCARDED] == PACKETS - BEHIND - late);
+    EXPECT(words[AHZ_S_ORDER] == 428 + late); /* one for each gap: the last drop is the last packet */
+}
+
 /* ---- Holes before the first packet ---- */
 
 /* Events that are no packet with a number: the tape's kinds of them, and a timeout. */
 enum { TAGLESS = -2, TICK = -3, RESET = -4, LATENT_RESET = -5, TIMEOUT = -7 };
 
-/* Worked out by hand: a rule, H and events, then lost and before-first, and word 11 at the end. */
+/* Worked out by hand: a rule, H and events, then lost and before-first, and the first place at the end. */
 static void holes(void) {
     static const struct {
         uint8_t rule;
@@ -522,6 +696,12 @@ static void holes(void) {
         {0, 64, {1000, 1063, 1064}, 3, 63, 63, 0},
         {0, 64, {1000, 1063, 1126}, 3, 125, 63, 0},        /* 1001 to 1062 */
         {0, 64, {1000, 1001, 1064}, 3, 63, 63, 0},
+        {0, 512, {1000, 1511}, 2, 511, 511, 512},
+        {0, 512, {1000, 1511, 1512}, 3, 511, 511, 0},
+        {0, 512, {1000, 1511, 2022}, 3, 1021, 511, 0},     /* 1001 to 1510 */
+        {0, 512, {100, 600, 101, 612}, 4, 511, 511, 0},    /* 101 comes 499 behind, and stays */
+        {0, 512, {100, 600, 613}, 3, 512, 511, 0},         /* and here it leaves */
+        {0, 512, {65535, 510}, 2, 511, 511, 512},
         {0, 4, {65535, 1}, 2, 2, 2, 3},                    /* across 65,535 */
         {0, 4, {0, 2, 5}, 3, 4, 3, 0},
         {0, 4, {65533, 65535, 2}, 3, 4, 3, 0},
@@ -556,14 +736,14 @@ static void holes(void) {
 /* Spans from a start or a reset to the next, counted from their packets alone: of the places that the window has left, those that no packet
  * passed at are lost. Below the first place they are before-first, and above it what is left of lost. */
 static void spans(void) {
-    enum { FIRST = 64, PACKETS = 60, PLACES = FIRST + 63 * PACKETS };
-    static const uint16_t histories[] = {2, 3, 4, 8, 33, 63, 64};
+    enum { FIRST = 512, PACKETS = 60, PLACES = FIRST + 511 * PACKETS };
+    static const uint16_t lengths[] = {2, 3, 4, 8, 33, 63, 64, 65, 128, 511, 512};
     size_t i;
     unsigned span, packet;
-    for (i = 0; i < COUNT(histories); i++) {
-        const int history = histories[i];
+    for (i = 0; i < COUNT(lengths); i++) {
+        const int history = lengths[i];
         uint64_t words[AHZ_S_WORDS];
-        begin(words, AHZ_RULE_VECTOR, AHZ_USE_SEQUENCE, histories[i]);
+        begin(words, AHZ_RULE_VECTOR, AHZ_USE_SEQUENCE, lengths[i]);
         words[AHZ_S_LOST] = UINT64_MAX - 20;
         words[AHZ_S_BEFORE_FIRST] = UINT64_MAX - 10;
         for (span = 0; span < 20; span++) {
@@ -676,7 +856,7 @@ static void stuck_sender(void) {
 /* ---- What the typed forms read of a state, and of an answer ---- */
 
 static void typed(void) {
-    unsigned n;
+    unsigned n, k;
     for (n = 0; n < 200; n++) {
         PaperState state = any_state();
         ahz_state_t words;
@@ -694,7 +874,8 @@ static void typed(void) {
         EXPECT(counters.resets == state.resets && counters.latent_resets == state.latent_resets);
         EXPECT(counters.before_first == state.before_first);
         EXPECT(ahz_state_ticks_left(&words).ticks == state.left && ahz_state_base(&words) == state.base);
-        EXPECT(ahz_state_marks(&words) == words.words[AHZ_S_MARKS]);
+        for (k = 0; k < 512; k++) EXPECT(ahz_state_mark(&words, k) == (state.marks[k] == 1));
+        EXPECT(ahz_state_mark(&words, 512) == 0 && ahz_state_mark(&words, 640) == 0 && ahz_state_mark(&words, SIZE_MAX) == 0);
         EXPECT(ahz_state_newest(&words, &newest) == (state.take_any == 0));
         EXPECT(newest == (state.take_any == 0 ? state.newest : 0x5A5A));
         EXPECT(ahz_state_first(&words, &below) == (state.first > 0));
@@ -717,7 +898,8 @@ static void answers(void) {
 }
 
 int main(void) {
-    static void (*const parts[])(void) = {edges, slides, holes, spans, discards, before_any_number, stuck_sender, numbering, ticks, setups,
-                                          setup_order, runs, single_events, unsound, first_places, shorter, older_versions, typed, answers};
+    static void (*const parts[])(void) = {edges, slides, long_slides, every_difference, slow_arm, holes, spans, discards, before_any_number,
+                                          stuck_sender, numbering, ticks, setups, histories, setup_order, runs, single_events, unsound,
+                                          marks_beyond, first_places, shorter, older_versions, typed, answers};
     return run_tests("tests/c/states.c", parts, COUNT(parts));
 }

@@ -34,6 +34,7 @@ static int expected_is(const char *expected) {
 #define WORKED 0x0F, 0, 0, 0, 0, 4, 0, 0, 0, 100, 0, 100, 2, 0, 0, 0, 1
 #define ONE_TICK 0x0F, 1, 1, 0, 0, 2, 0, 0, 0, 1, 0, 1, 8, 0, 0, 0, 0
 #define THREE_TICKS(use) 0x0F, 0, 0, use, 0, 4, 0, 0, 0, 3, 0x03, 0xE8, 2, 0, 0, 0, 1
+#define LONGEST_HISTORY 0x0F, 0, 0, 0, 2, 0, 0, 0, 0, 100, 0, 100, 2, 0, 0, 0, 1
 enum { SETUP = 17 }; /* octets of one, its kind among them */
 
 /* Tapes with their outputs written out: the paper's own, every line there is, and each fault. */
@@ -84,12 +85,19 @@ static void written(void) {
         {{0x0F, 2, 2, 2, 0, 1, 0, 0, 0, 0, 0, 0, 1, 0, 0, 0, 0}, SETUP, "fault 15\n"},
         {{0x0F, 1, 2, 1, 0, 1, 0, 0, 0, 0, 0, 0, 1, 0, 0, 0, 0}, SETUP, "fault 27\n"},
         {{0x0F, 1, 1, 2, 0, 1, 0, 0, 0, 0, 0, 0, 1, 0, 0, 0, 0}, SETUP, "fault 27\n"},
-        {{0x0F, 1, 1, 1, 0, 65, 0, 0, 0, 0, 0, 0, 1, 0, 0, 0, 0}, SETUP, "fault 16\n"},
-        {{0x0F, 1, 1, 1, 0, 64, 0, 0x36, 0xEE, 0x81, 0, 0, 1, 0, 0, 0, 0}, SETUP, "fault 17\n"},
-        {{0x0F, 1, 1, 1, 0, 64, 0, 0x36, 0xEE, 0x80, 0x27, 0x11, 1, 0, 0, 0, 0}, SETUP, "fault 18\n"},
-        {{0x0F, 1, 1, 1, 0, 64, 0, 0x36, 0xEE, 0x80, 0x27, 0x10, 9, 0, 0, 0, 0}, SETUP, "fault 19\n"},
-        {{0x0F, 1, 1, 1, 0, 64, 0, 0x36, 0xEE, 0x80, 0x27, 0x10, 8, 0xFF, 0xFF, 0xFF, 0xFF}, SETUP,
+        {{0x0F, 1, 1, 1, 2, 1, 0, 0, 0, 0, 0, 0, 1, 0, 0, 0, 0}, SETUP, "fault 16\n"},
+        {{0x0F, 0, 1, 1, 2, 1, 0, 0, 0, 100, 0, 100, 2, 0, 0, 0, 1}, SETUP, "fault 16\n"},
+        {{0x0F, 1, 1, 1, 2, 0, 0, 0x36, 0xEE, 0x81, 0, 0, 1, 0, 0, 0, 0}, SETUP, "fault 17\n"},
+        {{0x0F, 1, 1, 1, 2, 0, 0, 0x36, 0xEE, 0x80, 0x27, 0x11, 1, 0, 0, 0, 0}, SETUP, "fault 18\n"},
+        {{0x0F, 1, 1, 1, 2, 0, 0, 0x36, 0xEE, 0x80, 0x27, 0x10, 9, 0, 0, 0, 0}, SETUP, "fault 19\n"},
+        {{0x0F, 1, 1, 1, 2, 0, 0, 0x36, 0xEE, 0x80, 0x27, 0x10, 8, 0xFF, 0xFF, 0xFF, 0xFF}, SETUP,
          "ok\npassed=0 discarded=0 order=0 rogue=0 lost=0 tagless=0 resets=0 latent-resets=0 before-first=0\n"},
+        {{LONGEST_HISTORY, 1, 0, 0, 1, 0xFE, 1, 1, 0xFE, 0, 1, 2, 0, 1, 0, 1}, SETUP + 15, /* 0, 65,025, 65,024, then 512 and 1 */
+         "ok\npass\npass\ndiscard\ndiscard\npass\n"
+         "passed=3 discarded=2 order=1 rogue=2 lost=0 tagless=0 resets=0 latent-resets=0 before-first=0\n"},
+        {{LONGEST_HISTORY, 1, 0, 0, 1, 1, 0xFF, 1, 0, 11, 1, 0, 11, 1, 2, 0}, SETUP + 15, /* 500 behind 511, once; then 0 leaves */
+         "ok\npass\npass\npass\ndiscard\npass\n"
+         "passed=4 discarded=1 order=2 rogue=0 lost=511 tagless=0 resets=0 latent-resets=0 before-first=511\n"},
     };
     size_t i, octets;
     for (i = 0; i < COUNT(tapes); i++) {
@@ -100,25 +108,40 @@ static void written(void) {
     }
 }
 
-/* Tapes as version 1 had them, a setup of 15 octets: whatever its history length and timeout, what was good is a fault. */
+/* Tapes as version 1 had them, a setup of 15 octets without a use, and what the header says of those that were good: each octet from the
+ * history length on is read one place late. A history length of 2 and a difference from 2^25 to 9 x 2^24 - 1 is a setup of today, with the
+ * first event's kind in it. */
+static void expect_version_1(unsigned history, uint32_t ms, uint16_t rate, uint32_t difference) {
+    const uint8_t old[] = {0x0F, 0, 1, 0, (uint8_t)history, (uint8_t)(ms >> 24), (uint8_t)(ms >> 16), (uint8_t)(ms >> 8), (uint8_t)ms,
+                           (uint8_t)(rate >> 8), (uint8_t)rate, 2, (uint8_t)(difference >> 24), (uint8_t)(difference >> 16),
+                           (uint8_t)(difference >> 8), (uint8_t)difference};
+    const char *said = history > 2 ? "fault 16\n" : ms > 14062 ? "fault 17\n" : rate % 256 > 39 ? "fault 18\n"
+                       : difference < 33554432 || difference > 150994943 ? "fault 19\n" : NULL;
+    uint8_t kind;
+    memcpy(tape, old, sizeof old);
+    expect_tape(sizeof old);
+    EXPECT(expected_is("fault 24\n"));
+    for (kind = 1; kind <= 6; kind++) {
+        tape[sizeof old] = kind;
+        tape[sizeof old + 1] = tape[sizeof old + 2] = 0;
+        expect_tape(sizeof old + (kind == 1 ? 3 : 1));
+        if (said != NULL) EXPECT(expected_is(said));
+        else if (kind == 1) EXPECT(expected_is("ok\nfault 23\n")); /* its number, 0, for a kind */
+        else EXPECT(strncmp(lines, "ok\npassed=0 discarded=0 ", 24) == 0);
+    }
+}
+
 static void version_1(void) {
-    static const uint8_t timeouts[][4] = {{0, 0, 0, 1}, {0, 0x36, 0xEE, 0x80}};
-    static const uint8_t old[] = {0x0F, 1, 0, 0, 0, 0, 0, 0, 0, 0x03, 0xE8, 2, 0, 0, 0, 1};
-    unsigned history, kind, i;
-    for (i = 0; i < COUNT(timeouts); i++) {
-        for (history = 2; history <= 64; history++) {
-            memcpy(tape, old, sizeof old);
-            tape[4] = (uint8_t)history;
-            memcpy(tape + 5, timeouts[i], 4);
-            expect_tape(sizeof old);
-            EXPECT(expected_is("fault 24\n"));
-            for (kind = 1; kind <= 6; kind++) {
-                tape[sizeof old] = (uint8_t)kind;
-                tape[sizeof old + 1] = tape[sizeof old + 2] = 0;
-                expect_tape(sizeof old + (kind == 1 ? 3 : 1));
-                EXPECT(expected_is("fault 16\n"));
-            }
+    static const uint32_t timeouts[] = {1, 100, 14062, 14063, 65536, 3600000};
+    static const uint32_t differences[] = {0, 1, 33554431, 33554432, 150994943, 150994944, UINT32_MAX};
+    static const uint16_t rates[] = {1, 39, 40, 100, 255, 256, 295, 296, 9984, 9999, 10000};
+    size_t t, r, d;
+    unsigned history;
+    for (t = 0; t < COUNT(timeouts); t++) {
+        for (r = 0; r < COUNT(rates); r++) {
+            for (d = 0; d < COUNT(differences); d++) expect_version_1(2, timeouts[t], rates[r], differences[d]);
         }
+        for (history = 3; history <= 64; history++) expect_version_1(history, timeouts[t], rates[t], differences[t]);
     }
 }
 
@@ -143,7 +166,7 @@ static uint8_t below(unsigned end) {
 
 /* Events in any order, of any setup, and now and then an octet that is wrong. */
 static void any_events(void) {
-    static const uint8_t worked[] = {WORKED}, histories[] = {2, 4, 64};
+    static const uint8_t worked[] = {WORKED}, histories[][2] = {{0, 2}, {0, 4}, {0, 64}, {0, 65}, {2, 0}};
     unsigned n;
     size_t at;
     for (n = 0; n < 150; n++) {
@@ -153,7 +176,7 @@ static void any_events(void) {
         tape[1] = below(2);
         tape[2] = below(2);
         tape[3] = below(2);
-        tape[5] = histories[below(3)];
+        memcpy(tape + 4, histories[below(5)], 2);
         tape[9] = (uint8_t)(1 + below(9)); /* ms, and a rate of 356: from one tick to four */
         tape[10] = 1;
         tape[12] = (uint8_t)(2 + below(7));
@@ -161,7 +184,7 @@ static void any_events(void) {
         for (at = SETUP; at + 3 < octets;) {
             tape[at] = (uint8_t)(below(4) < 3 ? 1 : 2 + below(5));
             if (tape[at++] != 1) continue;
-            number += roll() % 7 - 2;
+            number += below(16) == 0 ? roll() % 1100 - 550 : roll() % 7 - 2;
             tape[at++] = (uint8_t)(number >> 8);
             tape[at++] = (uint8_t)number;
         }
@@ -200,10 +223,11 @@ static void longest(void) {
         }
     }
     memcpy(tape, good[0], SETUP);
-    tape[5] = AHZ_HISTORY_MOST;
-    for (at = SETUP; at + 7 <= 4096; at += 7) memcpy(tape + at, "\1\0\0\1\0\77\4", 7); /* 0, 63 and a reset, 582 times */
+    tape[4] = AHZ_HISTORY_MOST / 256;
+    tape[5] = 0;
+    for (at = SETUP; at + 7 <= 4096; at += 7) memcpy(tape + at, "\1\0\0\1\1\377\4", 7); /* 0, 511 and a reset, 582 times */
     expect_tape(at);
-    EXPECT(strstr(lines, " lost=36666 ") != NULL && strstr(lines, " before-first=36666\n") != NULL);
+    EXPECT(strstr(lines, " lost=297402 ") != NULL && strstr(lines, " before-first=297402\n") != NULL);
     memset(tape, 0, sizeof tape);
     expect_tape(4096);
     EXPECT(expected_is("fault 23\n"));

@@ -167,6 +167,12 @@ int main(void) {
 #if MIXUP == 42 /* a first place, without asking whether it stands in the window */
     number = ahz_state_first(&state);
 #endif
+#if MIXUP == 43 /* warned: a fresh state by the call of version 3 */
+    answer = ahz_fresh_v3(0, 0, 0, 8, 100, 100, 2, 1, state.words, AHZ_S_WORDS);
+#endif
+#if MIXUP == 44 /* warned: the marks as one word, as version 3 gave them */
+    right = right && ahz_state_marks(&state) == 0;
+#endif
     right = right && answer != AHZ_DONE && number == 0;
     if (!right) printf("tests/c/units.c: without a mistake, a wrong answer\n");
     return right ? 0 : 1;

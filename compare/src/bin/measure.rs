@@ -172,6 +172,7 @@ type Kind = (Rule, Usage, u16);
 const VECTOR: Kind = (Rule::Vector, Usage::Sequence, 64);
 const MATCH: Kind = (Rule::Match, Usage::Sequence, 64);
 const INDIVIDUAL: Kind = (Rule::Vector, Usage::Individual, 64);
+const LONGEST: Kind = (Rule::Vector, Usage::Sequence, 512);
 
 /// Both states of one setup, after one packet, which has the number 10.
 fn begun(
@@ -311,8 +312,8 @@ fn tagless(what: &str, kind: Kind) -> Figure {
 }
 
 /// A reset and the packets after it, together: the first place stands in the window.
-fn after_a_reset(what: &str, numbers: &[u16]) -> Figure {
-    let (mut ours, mut plain) = begun(VECTOR);
+fn after_a_reset(what: &str, kind: Kind, numbers: &[u16]) -> Figure {
+    let (mut ours, mut plain) = begun(kind);
     both(
         what,
         |times| {
@@ -334,6 +335,29 @@ fn after_a_reset(what: &str, numbers: &[u16]) -> Figure {
     )
 }
 
+/// Ticks on one state, which has too many left to time out.
+fn tick(what: &str, kind: Kind) -> Figure {
+    let (mut ours, mut plain) = begun(kind);
+    both(
+        what,
+        |times| repeat(times, || black_box(&mut ours.0).tick()),
+        |times| repeat(times, || called::tick(black_box(&mut plain.0))),
+    )
+}
+
+/// The same with the longest history, whose marks are in eight words.
+fn steps_of_the_longest(figures: &mut Vec<Figure>) {
+    let back = 1u16.wrapping_neg();
+    figures.push(step("step in order, H 512", LONGEST, 1, [1, 1]));
+    figures.push(step("step, 2 ahead and 1 late in turn, H 512", LONGEST, 2, [back, 3]));
+    figures.push(step("step duplicate, H 512", LONGEST, 0, [0, 0]));
+    figures.push(step("step with a slide of 63, H 512", LONGEST, 63, [63, 63]));
+    figures.push(step("step with a slide of 511, H 512", LONGEST, 511, [511, 511]));
+    let with_a_slide = "reset, first packet and a slide of 511, H 512";
+    figures.push(after_a_reset(with_a_slide, LONGEST, &[10, 521]));
+    figures.push(tick("tick, H 512", LONGEST));
+}
+
 fn steps(figures: &mut Vec<Figure>) {
     let back = 1u16.wrapping_neg();
     figures.push(step("step in order, H 64", VECTOR, 1, [1, 1]));
@@ -344,20 +368,17 @@ fn steps(figures: &mut Vec<Figure>) {
     figures.push(step("step with a slide of 3, H 4", short, 3, [3, 3]));
     figures.push(step("step with a slide of 63, H 64", VECTOR, 63, [63, 63]));
     // No slide above has a first place left in the window. The last step of the second of these has.
-    figures.push(after_a_reset("reset and first packet, H 64", &[10]));
-    figures.push(after_a_reset("reset, first packet and a slide of 63, H 64", &[10, 73]));
+    figures.push(after_a_reset("reset and first packet, H 64", VECTOR, &[10]));
+    let with_a_slide = "reset, first packet and a slide of 63, H 64";
+    figures.push(after_a_reset(with_a_slide, VECTOR, &[10, 73]));
     figures.push(step("step in order, match", MATCH, 1, [1, 1]));
     figures.push(tagless("step without a number", VECTOR));
     // What is discarded restarts the timer here.
     figures.push(step("step duplicate, H 64, individual", INDIVIDUAL, 0, [0, 0]));
     figures.push(step("step rogue, H 64, individual", INDIVIDUAL, 20_000, [0, 0]));
     figures.push(tagless("step without a number, individual", INDIVIDUAL));
-    let (mut ours, mut plain) = begun(VECTOR);
-    figures.push(both(
-        "tick",
-        |times| repeat(times, || black_box(&mut ours.0).tick()),
-        |times| repeat(times, || called::tick(black_box(&mut plain.0))),
-    ));
+    figures.push(tick("tick", VECTOR));
+    let (ours, plain) = begun(VECTOR);
     figures.push(both(
         "latent test",
         |times| repeat(times, || black_box(&ours.0).latent_test()),
@@ -455,6 +476,7 @@ fn calls() -> Vec<Figure> {
     frames(&mut figures);
     lookups(&mut figures);
     steps(&mut figures);
+    steps_of_the_longest(&mut figures);
     cards(&mut figures);
     tape(&mut figures);
     figures

@@ -1,3 +1,4 @@
 pub mod UnsoundStays
 pub mod NeverRefused
+pub mod SetupStays
 pub mod Unique

@@ -2,7 +2,7 @@
 use mathlib.Core.Path.{refl}
 use Rattle.octets.specs.Checks.{verdict}
 use Rattle.frame.specs.Layout.{tag}
-use Rattle.marks.specs.Window.{mark, none, clearFrom, set, reach, moved, lostBy, slid, lostIn}
+use Rattle.marks.specs.Window.{valueOf, number, wordIn, marksOf, mark, none, clearFrom, set, reach, moved, lostBy, slid, lostIn}
 use Rattle.setup.specs.Conversion.{fullTicks, ticksOf}
 use Rattle.setup.specs.Range.{setupChecks, checked, isVector, isIndividual}
 use Rattle.rules.specs.Difference.{apart, signed, difference, outOfOrder}
@@ -19,7 +19,7 @@ use Rattle.recovery.specs.Packets.{numbered, tracing, settled, heard, packetOf}
 use Rattle.edges.specs.Starred.{cases, Starred}
 
 pub starred : Starred
-unfolding cases tag mark none clearFrom set reach moved lostBy slid lostIn verdict fullTicks ticksOf setupChecks checked isVector
+unfolding cases tag valueOf number wordIn marksOf mark none clearFrom set reach moved lostBy slid lostIn verdict fullTicks ticksOf setupChecks checked isVector
     isIndividual apart signed difference outOfOrder firstMarks first late onward byDifference vector match plus awaits partsAgree
     keepsFirst sound freshState restarted byRule numbered opened carried holeBy holesIn traced tracing counted settled heard packetOf
 starred = refl

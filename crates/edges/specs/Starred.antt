@@ -66,6 +66,9 @@ cases =
     ∷ record { asked = hear 0 64 (0 ∷ 65473 ∷ []); said = heardAs (Pass ∷ Pass ∷ []) 1 0 }
     ∷ record { asked = hear 0 64 (0 ∷ 65472 ∷ []); said = heardAs (Pass ∷ Discard ∷ []) 0 1 }
     ∷ record { asked = hear 0 64 (0 ∷ 32768 ∷ []); said = heardAs (Pass ∷ Discard ∷ []) 0 1 }
+    -- CR 4: "first 0, then 65,025 passes and 65,024 is rogue", at H 512
+    ∷ record { asked = hear 0 512 (0 ∷ 65025 ∷ []); said = heardAs (Pass ∷ Pass ∷ []) 1 0 }
+    ∷ record { asked = hear 0 512 (0 ∷ 65024 ∷ []); said = heardAs (Pass ∷ Discard ∷ []) 0 1 }
     -- "100 ms at 100 per second: 10 ticks"; "1 ms: 1"; "11 ms: 2"
     ∷ record { asked = ticks 100 100; said = number 10 }
     ∷ record { asked = ticks 1 100; said = number 1 }

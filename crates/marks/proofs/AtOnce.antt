@@ -2,17 +2,19 @@
 use Prim.Native.Nat.{ℕ, zero, suc, _+_, _-_, _*_, _/_, _%_, _^_, _≤_, _<_, min}
 use native.Mathlib.Nat.{pow-succ', mul-assoc, zero-add, suc-add, sub-self, le-refl, min-eq-left, min-eq-right, mod-one}
 use native.Mathlib.Omega.{arith}
-use mathlib.Core.Path.{_≡_, refl, ap, _∙_}
+use mathlib.Core.Path.{_≡_, refl, sym, ap, _∙_}
 use lib.Count.{ones}
 use lib.Dec.{ltb}
 use borrow.Author.Tests.{ltb-true, ltb-false}
 use Rattle.octets.proofs.Bools.{by-cases}
 use Rattle.marks.specs.declared.Marks.{Marks}
-use Rattle.marks.specs.Window.{number, marksOf, mark, reach, moved, lostBy, slid, lostIn}
+use Rattle.marks.specs.declared.Slid.{Slid}
+use Rattle.marks.specs.Window.{number, marksOf, mark, reach, moved, lostBy, slid, lostIn, Slides}
 use Rattle.marks.specs.Meaning.{clearAmong}
-use Rattle.marks.specs.AtOnce.{onesAmong, movedBy, SlidesAtOnce}
+use Rattle.marks.specs.AtOnce.{onesAmong, movedBy, Goes, SlidesAtOnce}
 use Rattle.marks.proofs.Digits.{digit, cut-moved, ones-row}
-use Rattle.marks.proofs.Reach.{reach-low, number-cut}
+use Rattle.marks.proofs.Words.{number-of}
+use Rattle.marks.proofs.Reach.{reach-low}
 use Rattle.marks.proofs.Moves.{mark-below-2, mark-moved-zero}
 use Rattle.marks.proofs.Meaning.{among-last, among-moved, lost-slid}
 
@@ -21,6 +23,10 @@ among-all : (k n : ℕ) (marks : Marks) → clearAmong k n marks + onesAmong k n
 unfolding clearAmong onesAmong
 among-all k zero marks = refl
 among-all k (suc n) marks = omega (arith, among-all (suc k) n marks, mark-below-2 k marks)
+
+-- so no more are set than there are
+pub among-few : (k n : ℕ) (marks : Marks) → onesAmong k n marks ≤ n
+among-few k n marks = omega (arith, among-all k n marks)
 
 -- the ones of a row, counted one by one, are those of its digits
 pub ones-are : (k n : ℕ) (marks : Marks) → ones (number marks / 2 ^ k % 2 ^ n) ≡ onesAmong k n marks
@@ -37,7 +43,7 @@ module _ (h : ℕ) where
       let further : number marks * 2 * 2 ^ suc d ≡ number marks * 2 ^ suc (suc d) = rw (mul-assoc, pow-succ' 2 (suc d)) in
       slid-at-once d (moved h marks)
       ∙ ap marksOf
-      (ap (λ (n : ℕ). n * 2 ^ suc d % 2 ^ reach h) (number-cut h (number marks * 2))
+      (ap (λ (n : ℕ). n * 2 ^ suc d % 2 ^ reach h) (number-of _)
       ∙ cut-moved (reach h) (suc d) (number marks * 2) ∙ ap (λ (n : ℕ). n % 2 ^ reach h) further)
 
   -- a row from mark 0 on, one place on: its last mark leaves it, and a clear one comes in
@@ -71,3 +77,9 @@ module _ (h : ℕ) where
 pub slides-at-once : SlidesAtOnce
 slides-at-once h zero marks p = absurd (omega arith)
 slides-at-once h (suc d) marks p = record { moves = slid-at-once h d marks; loses = lost-at-once h (suc d) marks }
+
+-- what goes in one go is what the single moves come to
+pub goes-right : (h d : ℕ) (marks : Marks) {went : Slid} → 1 ≤ d → Goes (reach h) d marks went → Slides marks h d went
+goes-right h d marks some p =
+    let moves = slides-at-once h d marks some in
+    record { moves = p .moves ∙ sym (moves .moves); loses = omega (arith, p .loses, moves .loses) }

@@ -8,7 +8,7 @@ use native.Mathlib.Nat.{add-zero, mul-mod-left, mul-add-mod-self-right}
 use native.Mathlib.Nat.{div-one, div-div-eq-div-mul, div-eq-of-lt, div-lt-iff-lt-mul}
 use native.Mathlib.Omega.{arith}
 use lib.Arith.{mod-mul, digits-lt}
-use lib.Pow.{pow-pos, pow-add, shr-lt, shl-exact, high-ones, mod-mod-pow}
+use lib.Pow.{pow-pos, pow-add, shr-lt, shl-exact, high, high-ones, ones-lt, ones-split, mod-mod-pow}
 use lib.Bits.{bitOr, and-high, or-add-and}
 use lib.Count.{ones, ones-step, ones-cat}
 use borrow.Author.Tests.{ltb-true, ltb-false, ne-eqb}
@@ -36,6 +36,12 @@ pub doubled : (h : ℕ) → 1 ≤ h → 2 ^ h ≡ 2 ^ (h - 1) * 2
 doubled zero p = omega arith
 doubled (suc l) p = let e : suc l - 1 ≡ l = omega arith in rw e (pow-suc 2 l)
 
+-- all ones of a word of w, moved down until n are left
+pub ones-left : (w n : ℕ) → n ≤ w → (2 ^ w - 1) / 2 ^ (w - n) ≡ 2 ^ n - 1
+ones-left w n p =
+    let apart : n + (w - n) ≡ w = omega arith in
+    ap (λ (m : ℕ). m / 2 ^ (w - n)) (rw apart at (ones-split n (w - n))) ∙ high (2 ^ n - 1) (w - n) (ones-lt (w - n))
+
 -- one digit in a word of w
 pub one-shifted : (w k : ℕ) → k < w → 1 * 2 ^ k % 2 ^ w ≡ 2 ^ k
 one-shifted w k p = shl-exact 1 k w (omega arith) (omega arith) ∙ one-mul (2 ^ k)
@@ -48,7 +54,7 @@ half-low : (h n : ℕ) → n % 2 ^ suc h / 2 ≡ n / 2 % 2 ^ h
 half-low h n = rw low-digits (omega arith)
 
 -- the digits below h do not see what stands at h and above
-digit-low : (h k n : ℕ) → k < h → digit k (n % 2 ^ h) ≡ digit k n
+pub digit-low : (h k n : ℕ) → k < h → digit k (n % 2 ^ h) ≡ digit k n
 digit-low zero k n kh = absurd (omega arith)
 digit-low (suc h) zero n kh = rw (digit-zero n, digit-zero, low-digits) (omega arith)
 digit-low (suc h) (suc k) n kh = rw (digit-suc k n, digit-suc, half-low h n) (digit-low h k (n / 2) (omega arith))

@@ -1,4 +1,6 @@
 pub mod Digits
+pub mod Words
+pub mod Counted
 pub mod Reach
 pub mod Moves
 pub mod Meaning

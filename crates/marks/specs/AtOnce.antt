@@ -3,11 +3,8 @@
 use Prim.Native.Nat.{ℕ, zero, suc, _+_, _-_, _*_, _%_, _^_, _≤_, min}
 use mathlib.Core.Path.{_≡_}
 use Rattle.marks.specs.declared.Marks.{Marks}
-use Rattle.marks.specs.Window.{most, number, marksOf, mark, reach, slid, lostIn}
-
--- a row of n marks from k on: at least one, and none past the last that there is
-abbrev pub Row : ℕ → ℕ → Type 0
-Row k n = (1 ≤ n) × (k + n ≤ most)
+use Rattle.marks.specs.declared.Slid.{Slid}
+use Rattle.marks.specs.Window.{number, marksOf, mark, reach, slid, lostIn}
 
 -- how many of the n marks from k on are set
 unfoldable pub onesAmong : ℕ → ℕ → Marks → ℕ
@@ -18,12 +15,13 @@ onesAmong k (suc n) marks = mark k marks + onesAmong (suc k) n marks
 unfoldable pub movedBy : ℕ → ℕ → Marks → Marks
 movedBy r d marks = marksOf (number marks * 2 ^ d % 2 ^ r)
 
--- "the marks move d places" in one go: they are cut off at the history, and of the d that leave, which are the last marks of the history
--- and clear ones behind them, all are lost but those that were set
-pub record OneGo (h d : ℕ) (marks : Marks) : Type 0 where
-  pub moves : slid h d marks ≡ movedBy (reach h) d marks
-  pub loses : lostIn h d marks + onesAmong (reach h - min d (reach h)) (min d (reach h)) marks ≡ d
+-- "the marks move d places" in one go: they are cut off at r, and of the d that leave, which are the last marks below r and clear ones
+-- behind them, all are lost but those that were set
+pub record Goes (r d : ℕ) (marks : Marks) (went : Slid) : Type 0 where
+  pub moves : went .marks ≡ movedBy r d marks
+  pub loses : went .lost + onesAmong (r - min d r) (min d r) marks ≡ d
 
 -- so for every history length and every slide of at least one place. A slide of no places cuts nothing off
 abbrev pub SlidesAtOnce : Type 0
-SlidesAtOnce = (h d : ℕ) (marks : Marks) → 1 ≤ d → OneGo h d marks
+SlidesAtOnce =
+    (h d : ℕ) (marks : Marks) → 1 ≤ d → Goes (reach h) d marks (record { marks = slid h d marks; lost = lostIn h d marks })

@@ -1,23 +1,72 @@
 -- The marks of the vector rule (document 01, "Numbering and recovery"). All marks together are one number, whose binary digit k is mark k.
--- How they are kept is said by `most`, `number` and `marksOf` alone. Assumes nothing.
+-- How they are kept is said by `most`, `bits`, `number` and `marksOf` alone. Assumes nothing.
 use Prim.Native.Nat.{ℕ, zero, suc, _+_, _-_, _*_, _/_, _%_, _^_, min, max}
 use mathlib.Core.Path.{_≡_}
+use mathlib.Core.List.{List, [], _∷_}
 use mathlib.Core.Bool.{Bool, cond, _&&_}
 use lib.Dec.{ltb, eqb}
 use Rattle.marks.specs.declared.Marks.{Marks}
 use Rattle.marks.specs.declared.Slid.{Slid}
 
--- how many marks there are: the longest "history length H 2 to 64"
+-- how many marks there are: the longest "history length H 2 to 64", which CR 4 has raised: "Raise H to 512"
 abbrev pub most : ℕ
-most = 64
+most = 512
+
+-- how many of them a word has
+abbrev pub bits : ℕ
+bits = 64
+
+-- the words of marks, that of the newest first
+abbrev pub wordsOf : Marks → List ℕ
+wordsOf marks =
+    marks .w0
+    ∷ marks .w1
+    ∷ marks .w2
+    ∷ marks .w3
+    ∷ marks .w4
+    ∷ marks .w5
+    ∷ marks .w6
+    ∷ marks .w7
+    ∷ []
+
+-- whether two marks have the same words
+abbrev pub sameWords : Marks → Marks → Bool
+sameWords a b =
+    eqb (a .w0) (b .w0)
+    && eqb (a .w1) (b .w1)
+    && eqb (a .w2) (b .w2)
+    && eqb (a .w3) (b .w3)
+    && eqb (a .w4) (b .w4)
+    && eqb (a .w5) (b .w5)
+    && eqb (a .w6) (b .w6)
+    && eqb (a .w7) (b .w7)
+
+-- words as one number, the lowest first
+unfoldable pub valueOf : List ℕ → ℕ
+valueOf [] = 0
+valueOf (w ∷ words) = valueOf words * 2 ^ bits + w
 
 -- all marks as one number
-abbrev pub number : Marks → ℕ
-number marks = marks .0
+unfoldable pub number : Marks → ℕ
+number marks = valueOf (wordsOf marks)
 
--- and the marks of a number
-abbrev pub marksOf : ℕ → Marks
-marksOf n = record { 0 = n }
+-- word i of a number
+unfoldable pub wordIn : ℕ → ℕ → ℕ
+wordIn i n = n / 2 ^ (bits * i) % 2 ^ bits
+
+-- and the marks of a number; what eight words have no room for stays in the last
+unfoldable pub marksOf : ℕ → Marks
+marksOf n =
+    record {
+      w0 = wordIn 0 n;
+      w1 = wordIn 1 n;
+      w2 = wordIn 2 n;
+      w3 = wordIn 3 n;
+      w4 = wordIn 4 n;
+      w5 = wordIn 5 n;
+      w6 = wordIn 6 n;
+      w7 = n / 2 ^ (bits * 7);
+    }
 
 -- "mark 0 is the newest": mark k is 1 where it is set, 0 where it is clear
 unfoldable pub mark : ℕ → Marks → ℕ

@@ -3,6 +3,7 @@
 // Above this room marks are known by these calls, by `mark` of specs/Window and by the laws, so that how they are kept can change; only the
 // words of a state and computed examples look inside. Any marks at all may be handed in, with any mark asked for and any history length:
 // each call has an answer.
+mod number;
 mod window;
 
 pub use window::clear_from;
@@ -11,8 +12,17 @@ pub use window::none;
 pub use window::set;
 pub use window::slide;
 
-// Bit k is mark k. The word is public, since any state at all may be handed in.
-pub struct Marks(pub u64);
+// Word i has the marks 64 i to 64 i + 63, the lowest at bit 0. The words are public, since any state at all may be handed in.
+pub struct Marks {
+    pub w0: u64,
+    pub w1: u64,
+    pub w2: u64,
+    pub w3: u64,
+    pub w4: u64,
+    pub w5: u64,
+    pub w6: u64,
+    pub w7: u64,
+}
 
 // The marks after some moves, and how many of the marks that left were clear.
 pub struct Slid {

@@ -51,6 +51,10 @@ both false b e = absurd (false≢true e)
 pub and-true : {a b : Bool} → a ≡ true → b ≡ true → (a && b) ≡ true
 and-true p q = rw (p, q)
 
+pub and-none : (a : Bool) {b : Bool} → b ≡ false → (a && b) ≡ false
+and-none true e = e
+and-none false e = refl
+
 pub neither : (a b : Bool) → (a || b) ≡ false → (a ≡ false) × (b ≡ false)
 neither false b e = (refl, e)
 neither true b e = (cc, cc)

@@ -1,7 +1,7 @@
 -- From the promises of the rooms below to those of the calls for C. Assumes nothing.
-use Prim.Native.Nat.{ℕ}
+use Prim.Native.Nat.{ℕ, _≤_}
 use mathlib.Core.Path.{_≡_, refl, sym, ap, _∙_}
-use mathlib.Core.Bool.{Bool, false, cond, not}
+use mathlib.Core.Bool.{Bool, true, false, cond, not}
 use mathlib.Core.List.{List, [], _∷_}
 use lib.Dec.{eqb}
 use borrow.Author.Tests.{eqb-true}
@@ -16,41 +16,58 @@ use Rattle.setup.proofs.InRange.{all-met}
 use Rattle.recovery.specs.declared.State.{State}
 use Rattle.recovery.specs.declared.Begun.{Begun}
 use Rattle.recovery.specs.declared.Begun.the-variants.{Ready, Refused}
+use Rattle.recovery.specs.Soundness.{sound}
 use Rattle.recovery.specs.Resets.{freshState, begunFrom}
 use Rattle.calls.specs.declared.Call.{Call}
 use Rattle.calls.specs.declared.Called.{Called}
 use Rattle.calls.specs.Answering.{answered, Answers}
+use Rattle.calls.specs.Caller.{after}
 use Rattle.calls.proofs.UnsoundStays.{unsound-answered}
+use Rattle.calls.proofs.NeverRefused.{sound-kept}
+use Rattle.calls.proofs.SetupStays.{setup-stays}
 use Rattle.answers.specs.Numbers.{numberOf}
-use Rattle.states.specs.declared.Held.the-variants as held-in
-use Rattle.states.specs.Fields.{held, stateOf, wordsOf, ReadsSound, Keeps}
-use Rattle.states.proofs.ReadLaws.{sound-read, nothing-read}
+use Rattle.states.specs.Fields.{held, marksIn, stateOf, wordsOf, Keeps, KeepsShort}
+use Rattle.states.proofs.ReadLaws.{Short}
+use Rattle.states.proofs.ShortLaws.{past, none-past, known, same-short}
 use Rattle.states.proofs.SameWords.{room}
 use Rattle.recovery_c.specs.Recoveries.{beginChecks, StepsTo, BeginsTo}
 use Rattle.recovery_c.proofs.Kept.{kept}
 
--- words that hold no sound state, and words that do
-module _ (w : List ℕ) where
-  module _ (p : ReadsSound w held-in.Nothing) (call : Call) where
+-- what a call on the state that the words hold comes to
+module _ (w : List ℕ) (call : Call) where
+  -- where none is held, or one that is not sound
+  module _ (unsound : held w ≡ true → sound (stateOf w) ≡ false) where
     pub unfit-answer : 14 ≡ cond (held w) (numberOf (answered (stateOf w) call .answer)) 14
     unfit-answer =
-        either (λ (n : ℕ). 14 ≡ n) (held w) (λ here. rw (unsound-answered (stateOf w) (nothing-read w p here) call)) (λ _. refl)
+        either (λ (n : ℕ). 14 ≡ n) (held w) (λ here. rw (unsound-answered (stateOf w) (unsound here) call)) (λ _. refl)
 
     pub unfit-told : StepsTo call w 14 w
-    unfit-told = record { answer = unfit-answer; words = sym (kept w call (nothing-read w p)) }
+    unfit-told = record { answer = unfit-answer; words = sym (kept w call unsound) }
 
-  module _ (call : Call) {s : State} {called : Called} {r : ℕ} (p : ReadsSound w (held-in.State s)) (a : Answers s call called)
+  -- where one is held
+  module _ {s : State} {called : Called} {r : ℕ} (here : held w ≡ true) (is : s ≡ stateOf w) (a : Answers s call called)
       (e : r ≡ numberOf (called .answer)) where
     there : called ≡ answered (stateOf w) call
-    there = a ∙ ap (λ (t : State). answered t call) (sound-read w p .1)
+    there = a ∙ ap (λ (t : State). answered t call) is
 
     pub answer-told : r ≡ cond (held w) (numberOf (answered (stateOf w) call .answer)) 14
-    answer-told = e ∙ rw (sound-read w p .0, there)
+    answer-told = e ∙ rw (here, there)
 
     pub step-told : {kept : Bool} {later : List ℕ} → Keeps (called .state) w kept later → StepsTo call w r later
-    step-told k =
-        let h = sound-read w p .0 in
-        record { answer = answer-told; words = put-first (room w h (called .state)) k ∙ rw (h, there) }
+    step-told k = record { answer = answer-told; words = put-first (room w here (called .state)) k ∙ rw (here, there) }
+
+-- where a short one is held, and sound, the next one is short too: all its words are put where those of the marks past the first stay
+module _ (w : List ℕ) (call : Call) {s : State} {called : Called} {r : ℕ} (p : Short w s) (ok : sound s ≡ true) (a : Answers s call called)
+    (e : r ≡ numberOf (called .answer)) where
+  nothing-past : past (marksIn w) ≡ past (called .state .marks)
+  unfolding stateOf after
+  nothing-past =
+      let few : s .setup .history ≤ 64 = rw (p .is) (p .history) in
+      let next = sound-kept s ok call .1 in
+      known w (p .clear) ∙ sym (rw a (none-past (answered s call .state) next (rw (setup-stays s call) few)))
+
+  pub short-told : {kept : Bool} {later : List ℕ} → KeepsShort (called .state) w kept later → StepsTo call w r later
+  short-told k = step-told w call (p .here) (p .is) a e (rw (same-short w (called .state) nothing-past) at k)
 
 -- a verdict that comes to a number refuses by it
 by-number : (v : Verdict) → eqb (refusal v) 0 ≡ false → v ≡ refuse (refusal v)

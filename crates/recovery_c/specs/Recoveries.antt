@@ -34,7 +34,7 @@ TestsTo w r = r ≡ cond (held w) (numberOf (answered (stateOf w) LatentTest .an
 unfoldable pub beginChecks : Setup → List ℕ → List Check
 beginChecks setup w = setupChecks setup ++ (not (fits (wordsOf (freshState setup)) w) ⇒ 8 ∷ [])
 
--- of `ahz_fresh_v3`: the words of the fresh state
+-- of `ahz_fresh_v4`: the words of the fresh state
 pub record BeginsTo (setup : Setup) (w : List ℕ) (r : ℕ) (later : List ℕ) : Type 0 where
   pub answer : r ≡ refusal (verdict (beginChecks setup w))
   pub words : later ≡ outputBy (verdict (beginChecks setup w)) (wordsOf (freshState setup)) w

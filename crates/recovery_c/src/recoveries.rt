@@ -1,5 +1,6 @@
 // The calls on a recovery state ("Numbering and recovery", document 01) for C: words are lent, the step is taken on the state that the
 // first of them hold, and the next state's words take their place. Words that hold no sound state are 14.
+use crate::long;
 use calls::Call;
 use recovery::Begun;
 use recovery::Packet;
@@ -9,11 +10,13 @@ use states::Held;
 ghost use Rattle.setup.specs.Values.{setupOf};
 ghost use Rattle.recovery.specs.declared.Packet.the-variants as packet;
 ghost use Rattle.calls.specs.declared.Call.the-variants as call;
+ghost use Rattle.states.specs.declared.Held.the-variants as held-in;
+ghost use Rattle.states.specs.Fields.{ReadsShort};
 ghost use Rattle.recovery_c.specs.Recoveries.{BeginsTo, StepsTo, TestsTo};
 
 // A fresh state, written to the first words.
 #[no_mangle]
-pub extern "C" fn ahz_fresh_v3(
+pub extern "C" fn ahz_fresh_v4(
     rule: u8,
     taken: u8,
     usage: u8,
@@ -47,7 +50,10 @@ pub extern "C" fn ahz_fresh_v3(
 pub extern "C" fn ahz_numbered(state: &mut [u64], number: u16) -> u8
     ensures { λ r. ⌜ StepsTo (call.Packet (packet.Numbered number)) (now (state .entry)) r (now (state .exit)) ⌝ }
 {
-    step_in(Call::Packet(Packet::Numbered(number)), state)
+    match states::read_short(state) {
+        Held::State(s) => step_short(s, Call::Packet(Packet::Numbered(number)), state),
+        Held::Nothing => long::numbered(state, number),
+    }
 }
 
 // A packet without a number.
@@ -83,13 +89,13 @@ pub extern "C" fn ahz_latent_reset(state: &mut [u64]) -> u8
 pub extern "C" fn ahz_latent_test(state: &[u64]) -> u8
     ensures { λ r. ⌜ TestsTo (now (state .entry)) r ⌝ }
 {
-    match states::read_sound(state) {
+    match states::read_short(state) {
         Held::State(s) => {
             let called = calls::take(s, Call::LatentTest);
             let answer = called.answer;
             answers::number_of(answer)
         }
-        Held::Nothing => 14,
+        Held::Nothing => long::latent_test(state),
     }
 }
 
@@ -102,18 +108,32 @@ fn begin_in(setup: Setup, state: &mut [u64]) -> u8
     }
 }
 
-// The one way that every step takes.
+// A step on the short state that the words hold: the words of its marks past the first are not touched. A state that is not sound is asked
+// before, though the call asks too, so that there is one way to 14, which writes nothing (docs/MEASURES.md).
+fn step_short(s: State, call: Call, state: &mut [u64]) -> u8
+    requires { ⌜ ReadsShort (now state) (held-in.State s) ⌝ }
+    ensures { λ r. ⌜ StepsTo call (now (state .entry)) r (now (state .exit)) ⌝ }
+{
+    if !s.is_sound() {
+        return 14;
+    }
+    let called = calls::take(s, call);
+    let answer = called.answer;
+    let next = called.state;
+    states::keep_short(next, state);
+    answers::number_of(answer)
+}
+
+// The way of every step but that of a packet with a number, which is taken most: a short state has one of its own, and any other one that
+// is apart from it.
 fn step_in(call: Call, state: &mut [u64]) -> u8
     ensures { λ r. ⌜ StepsTo call (now (state .entry)) r (now (state .exit)) ⌝ }
 {
-    match states::read_sound(state) {
-        Held::State(s) => {
-            let called = calls::take(s, call);
-            let answer = called.answer;
-            let next = called.state;
-            states::keep(next, state);
-            answers::number_of(answer)
+    match states::read_short(state) {
+        Held::State(s) => step_short(s, call, state),
+        Held::Nothing => {
+            let again = call;
+            long::step_apart(again, state)
         }
-        Held::Nothing => 14,
     }
 }

@@ -59,8 +59,8 @@ module _ (h : ℕ) (low : 1 ≤ h) (high : h ≤ most) (number : ℕ) where
         either (Discarded false h number) (eqb number newest) (λ same. rw same) (λ _. rw (eq-eqb number number refl))
 
   first-discarded : (isVector : Bool) → Discarded isVector h number (first isVector number)
-  unfolding first firstMarks mark none set byRule match
-  first-discarded true = newest-discarded (firstMarks true) refl
+  unfolding first firstMarks byRule match
+  first-discarded true = newest-discarded (firstMarks true) (sets-mean 0 none (omega arith) .mark-after 0)
   first-discarded false = rw (eq-eqb number number refl)
 
   pub again-discarded : (isVector takeAny : Bool) (newest : ℕ) (marks : Marks)

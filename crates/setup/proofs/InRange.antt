@@ -22,7 +22,7 @@ pub record InRange (setup : Setup) : Type 0 where
   pub rule : setup .rule ≤ 1
   pub taken : setup .taken ≤ 1
   pub usage : setup .usage ≤ 1
-  pub history : (2 ≤ setup .history) × (setup .history ≤ 64)
+  pub history : (2 ≤ setup .history) × (setup .history ≤ 512)
   pub timeout : (1 ≤ setup .timeout .0) × (setup .timeout .0 ≤ 3600000)
   pub rate : (1 ≤ setup .rate) × (setup .rate ≤ 10000)
   pub paths : (2 ≤ setup .paths) × (setup .paths ≤ 8)
@@ -38,7 +38,7 @@ in-range setup e =
     let rule = clear (not (leb (setup .rule) 1)) 15 _ (all-met setup e) in
     let taken = clear (not (leb (setup .taken) 1)) 27 _ (rule .1) in
     let usage = clear (not (leb (setup .usage) 1)) 27 _ (taken .1) in
-    let history = clear (not (within 2 64 (setup .history))) 16 _ (usage .1) in
+    let history = clear (not (within 2 512 (setup .history))) 16 _ (usage .1) in
     let timeout = clear (not (within 1 3600000 (setup .timeout .0))) 17 _ (history .1) in
     let rate = clear (not (within 1 10000 (setup .rate))) 18 _ (timeout .1) in
     let paths = clear (not (within 2 8 (setup .paths))) 19 _ (rate .1) in

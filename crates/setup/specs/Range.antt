@@ -17,13 +17,13 @@ within lo hi n = leb lo n && leb n hi
 -- "A setup is checked 15, 27, 16 to 19": "rule (0 vector, 1 match), whether packets without a number are taken, history length H 2 to 64,
 -- timeout 1 to 3,600,000 ms, ticks per second 1 to 10,000, paths 2 to 8, latent difference 0 to 2^32-1". "H is checked under match too";
 -- every difference of 32 bits is in range. In the table: "rule; H; ms; ticks per second; paths" and "taken flag not 0 or 1". By CR 2 "Setup
--- gets a use: sequence or individual", behind taken: "0 sequence, 1 individual, else 27"
+-- gets a use: sequence or individual", behind taken: "0 sequence, 1 individual, else 27"; by CR 4 "Raise H to 512; refusal 16 .. follow"
 unfoldable pub setupChecks : Setup → List Check
 setupChecks setup =
     not (leb (setup .rule) 1) ⇒ 15
     ∷ not (leb (setup .taken) 1) ⇒ 27
     ∷ not (leb (setup .usage) 1) ⇒ 27
-    ∷ not (within 2 64 (setup .history)) ⇒ 16
+    ∷ not (within 2 512 (setup .history)) ⇒ 16
     ∷ not (within 1 3600000 (setup .timeout .0)) ⇒ 17
     ∷ not (within 1 10000 (setup .rate)) ⇒ 18
     ∷ not (within 2 8 (setup .paths)) ⇒ 19

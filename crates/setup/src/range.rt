@@ -35,7 +35,7 @@ pub fn check_numbers(
     let from_paths = unless(within(2, 8, paths), 19, 0);
     let from_rate = unless(within(1, 10000, rate), 18, from_paths);
     let from_time = unless(within(1, 3600000, milliseconds), 17, from_rate);
-    let from_history = unless(within(2, 64, history), 16, from_time);
+    let from_history = unless(within(2, 512, history), 16, from_time);
     let from_usage = unless(usage <= 1, 27, from_history);
     let from_taken = unless(taken <= 1, 27, from_usage);
     unless(rule <= 1, 15, from_taken)

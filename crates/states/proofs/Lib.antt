@@ -1,3 +1,4 @@
 pub mod SameWords
 pub mod ReadLaws
+pub mod ShortLaws
 pub mod Unique

@@ -74,4 +74,4 @@ one-or-none (suc (suc n)) l = absurd (omega (arith, l))
 pub same-words : (w : List ℕ) → held w ≡ true → putIn (wordsOf (stateOf w)) w ≡ w
 unfolding wordsOf stateOf listed
 same-words w e =
-    let h = holds w e in rw (one-or-none (word 12 w) (h .«take_any»), sym (h .marked)) (listed-first 0 24 w (h .enough))
+    let h = holds w e in rw (one-or-none (word 19 w) (h .«take_any»), sym (h .marked)) (listed-first 0 31 w (h .enough))

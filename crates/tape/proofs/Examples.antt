@@ -1,7 +1,7 @@
 -- The tapes of `specs/Examples`, computed from the written rules. Assumes nothing.
 use mathlib.Core.Path.{refl}
 use Rattle.octets.specs.Number.{be16, be32}
-use Rattle.marks.specs.Window.{mark, none, clearFrom, set, reach, moved, lostBy, slid, lostIn}
+use Rattle.marks.specs.Window.{valueOf, number, wordIn, marksOf, mark, none, clearFrom, set, reach, moved, lostBy, slid, lostIn}
 use Rattle.setup.specs.Conversion.{fullTicks, ticksOf}
 use Rattle.setup.specs.Range.{setupChecks, checked, isVector, isIndividual}
 use Rattle.counters.specs.Counting.{plus, counted, resetCounted}
@@ -24,7 +24,7 @@ use Rattle.tape.specs.Player.{figures, linesFrom, played, tapeChecks, ou
 use Rattle.tape.specs.Examples.{setupFor, setup, stuck, cases, AsPrinted}
 
 pub as-printed : AsPrinted
-unfolding be16 be32 mark none clearFrom set reach moved lostBy slid lostIn fullTicks ticksOf setupChecks checked isVector isIndividual plus
+unfolding be16 be32 valueOf number wordIn marksOf mark none clearFrom set reach moved lostBy slid lostIn fullTicks ticksOf setupChecks checked isVector isIndividual plus
     freshState begunFrom awaits partsAgree keepsFirst sound apart signed difference late onward byDifference vector restarted timed tickOf
     resetState resetCounted byRule numbered firstMarks first opened carried holeBy holesIn traced tracing counted settled heard packetOf less
     absolute figure exceeds latentError latentTestOf cases setupFor setup stuck outputOf tapeChecks verdict played linesFrom figures

@@ -4,7 +4,7 @@ use Prim.Native.Nat.{ℕ, _+_, _*_}
 use mathlib.Core.Path.{_≡_}
 
 abbrev pub major : ℕ
-major = 3
+major = 4
 
 abbrev pub minor : ℕ
 minor = 0

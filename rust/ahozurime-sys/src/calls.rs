@@ -77,7 +77,7 @@ extern "C" {
     /// Writes a fresh state of that setup to the first [`AHZ_S_WORDS`](crate::AHZ_S_WORDS) words of
     /// `state`; later words stay. Refuses as [`ahz_check_setup_v2`]; then 8 where there are fewer
     /// words.
-    pub fn ahz_fresh_v3(
+    pub fn ahz_fresh_v4(
         rule: u8,
         taken: u8,
         usage: u8,

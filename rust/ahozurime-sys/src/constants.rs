@@ -1,7 +1,7 @@
 // ---- The version ----
 
 /// Goes up where a program written for an older header could go wrong.
-pub const AHZ_VERSION_MAJOR: u32 = 3;
+pub const AHZ_VERSION_MAJOR: u32 = 4;
 /// Goes up where something is only added.
 pub const AHZ_VERSION_MINOR: u32 = 0;
 /// The version that this package is written for; [`ahz_version`](crate::ahz_version) answers that of
@@ -11,9 +11,9 @@ pub const AHZ_VERSION: u32 = AHZ_VERSION_MAJOR * 65_536 + AHZ_VERSION_MINOR;
 // ---- Stack ----
 
 /// Octets of stack that are enough for [`ahz_tape_v3`](crate::ahz_tape_v3).
-pub const AHZ_TAPE_STACK: usize = 54_784;
+pub const AHZ_TAPE_STACK: usize = 55_296;
 /// Octets of stack that are enough for every other call.
-pub const AHZ_STACK: usize = 256;
+pub const AHZ_STACK: usize = 512;
 
 // ---- The refusals ----
 
@@ -47,7 +47,7 @@ pub const AHZ_R_ENTRY_257: u8 = 13;
 pub const AHZ_R_STATE: u8 = 14;
 /// Setup: rule not 0 or 1.
 pub const AHZ_R_RULE: u8 = 15;
-/// Setup: history length not 2 to 64.
+/// Setup: history length not 2 to 512.
 pub const AHZ_R_HISTORY: u8 = 16;
 /// Setup: timeout not 1 to 3,600,000 ms.
 pub const AHZ_R_MILLISECONDS: u8 = 17;
@@ -188,7 +188,7 @@ pub const AHZ_USE_INDIVIDUAL: u8 = 1;
 /// The least history length.
 pub const AHZ_HISTORY_LEAST: u16 = 2;
 /// The greatest history length.
-pub const AHZ_HISTORY_MOST: u16 = 64;
+pub const AHZ_HISTORY_MOST: u16 = 512;
 /// The shortest timeout.
 pub const AHZ_MILLISECONDS_LEAST: u32 = 1;
 /// The longest timeout.
@@ -205,7 +205,7 @@ pub const AHZ_PATHS_MOST: u8 = 8;
 // ---- The words of a state ----
 
 /// What [`AHZ_S_FORMAT`] holds: it changes whenever the words of a state or their meaning do.
-pub const AHZ_STATE_FORMAT: u64 = 0x4148_5A03;
+pub const AHZ_STATE_FORMAT: u64 = 0x4148_5A04;
 
 /// [`AHZ_STATE_FORMAT`]; a state of another format is refused by 14.
 pub const AHZ_S_FORMAT: usize = 0;
@@ -215,7 +215,7 @@ pub const AHZ_S_RULE: usize = 1;
 pub const AHZ_S_TAKEN: usize = 2;
 /// 0 sequence, 1 individual.
 pub const AHZ_S_USE: usize = 3;
-/// The history length, 2 to 64.
+/// The history length, 2 to 512.
 pub const AHZ_S_HISTORY: usize = 4;
 /// The timeout, 1 to 3,600,000.
 pub const AHZ_S_MILLISECONDS: usize = 5;
@@ -227,37 +227,40 @@ pub const AHZ_S_PATHS: usize = 7;
 pub const AHZ_S_DIFFERENCE: usize = 8;
 /// The newest number, below 2^16.
 pub const AHZ_S_NEWEST: usize = 9;
-/// Bit k is mark k; mark 0 is the newest.
+/// The first of the marks' [`AHZ_MARK_WORDS`] words: bit k % 64 of the word k / 64 behind it is mark k, set
+/// where the number k below the newest has passed. Mark 0 is the newest.
 pub const AHZ_S_MARKS: usize = 10;
 /// Which of the window's places is the first packet's, counted from the newest as 1, so one more than the
 /// k of its mark; 0 where none of them is.
-pub const AHZ_S_FIRST: usize = 11;
+pub const AHZ_S_FIRST: usize = 18;
 /// 1 where any number is taken next, else 0.
-pub const AHZ_S_TAKE_ANY: usize = 12;
+pub const AHZ_S_TAKE_ANY: usize = 19;
 /// Ticks left.
-pub const AHZ_S_LEFT: usize = 13;
+pub const AHZ_S_LEFT: usize = 20;
 /// Packets that passed. The nine counters wrap.
-pub const AHZ_S_PASSED: usize = 14;
+pub const AHZ_S_PASSED: usize = 21;
 /// Packets that were discarded.
-pub const AHZ_S_DISCARDED: usize = 15;
+pub const AHZ_S_DISCARDED: usize = 22;
 /// Packets that passed out of order.
-pub const AHZ_S_ORDER: usize = 16;
+pub const AHZ_S_ORDER: usize = 23;
 /// Packets discarded for a number too far from the newest.
-pub const AHZ_S_ROGUE: usize = 17;
+pub const AHZ_S_ROGUE: usize = 24;
 /// Places that the window left and that nothing passed at.
-pub const AHZ_S_LOST: usize = 18;
+pub const AHZ_S_LOST: usize = 25;
 /// Packets without a number.
-pub const AHZ_S_TAGLESS: usize = 19;
+pub const AHZ_S_TAGLESS: usize = 26;
 /// Resets, by call or by timeout.
-pub const AHZ_S_RESETS: usize = 20;
+pub const AHZ_S_RESETS: usize = 27;
 /// Latent resets.
-pub const AHZ_S_LATENT_RESETS: usize = 21;
+pub const AHZ_S_LATENT_RESETS: usize = 28;
 /// Those of [`AHZ_S_LOST`] that lie below the first packet's place.
-pub const AHZ_S_BEFORE_FIRST: usize = 22;
+pub const AHZ_S_BEFORE_FIRST: usize = 29;
 /// The latent base, modulo 2^64.
-pub const AHZ_S_BASE: usize = 23;
+pub const AHZ_S_BASE: usize = 30;
 /// How many words a state has.
-pub const AHZ_S_WORDS: usize = 24;
+pub const AHZ_S_WORDS: usize = 31;
+/// How many of them are the marks, a bit for each place of the longest history.
+pub const AHZ_MARK_WORDS: usize = 8;
 
 // ---- Charge cards, by their first octet ----
 

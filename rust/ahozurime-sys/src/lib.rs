@@ -4,8 +4,8 @@
 //! does; a test of this package holds the two against each other. The package `ahozurime` offers the
 //! same calls over slices, with types for units and answers, and is what a program should use.
 //!
-//! A call whose name ends in `_v2` or `_v3` took or wrote something else before that version. So an older
-//! archive is not linked and then misread: it does not have all of these names.
+//! A call whose name ends in `_v2`, `_v3` or `_v4` took or wrote something else before that version. So an
+//! older archive is not linked and then misread: it does not have all of these names.
 //!
 //! # What every call asks for
 //!

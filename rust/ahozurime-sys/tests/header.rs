@@ -210,8 +210,8 @@ fn of_the_header() -> (Constants, Calls) {
 /// The type that a constant has in this package: that of the argument, answer or word that it is
 /// written for.
 fn type_of(constant: &str) -> &'static str {
-    const LENGTHS: [&str; 6] =
-        ["_OCTETS", "_SHORTEST", "_LONGEST", "_ENTRIES", "TAPE_OUTPUT", "STACK"];
+    const LENGTHS: [&str; 7] =
+        ["_OCTETS", "_WORDS", "_SHORTEST", "_LONGEST", "_ENTRIES", "TAPE_OUTPUT", "STACK"];
     let name = constant.strip_prefix("AHZ_").expect("a name of the header");
     let begins = |with: &[&str]| with.iter().any(|start| name.starts_with(start));
     let ends = |with: &[&str]| with.iter().any(|end| name.ends_with(end));

@@ -90,7 +90,7 @@ pub fn fresh(setup: SetupNumbers, state: &mut [u64; sys::AHZ_S_WORDS]) -> u8 {
     let (at, words) = (state.as_mut_ptr(), state.len());
     // Safety: one slice with its length, borrowed alone.
     unsafe {
-        sys::ahz_fresh_v3(rule, taken, usage, history, ms, rate, paths, difference, at, words)
+        sys::ahz_fresh_v4(rule, taken, usage, history, ms, rate, paths, difference, at, words)
     }
 }
 

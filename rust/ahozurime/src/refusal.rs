@@ -51,7 +51,7 @@ refusals! {
     13 ENTRY_257 "257th table entry"
     14 STATE "no state of this format, or one that is not sound"
     15 RULE "rule not 0 or 1"
-    16 HISTORY "history length not 2 to 64"
+    16 HISTORY "history length not 2 to 512"
     17 MILLISECONDS "timeout not 1 to 3,600,000 ms"
     18 RATE "ticks per second not 1 to 10,000"
     19 PATHS "paths not 2 to 8"

@@ -1,7 +1,7 @@
 //! What this package adds to the layer: names, sentences and walks.
 
 use ahozurime::cards::{self, Calibration, Card, Reading};
-use ahozurime::recovery::{Generator, Rule, Setup, State, Usage, Verdict, WORDS};
+use ahozurime::recovery::{Generator, Rule, Setup, State, Usage, Verdict, MARK_WORDS, WORDS};
 use ahozurime::{frame, streams, tape, version, Version, STACK};
 use ahozurime::{Milliseconds, Millivolts, RawCode, Refusal, TicksPerSecond, Volts};
 use std::collections::BTreeMap;
@@ -78,9 +78,9 @@ fn a_refusal_is_shown_with_its_sentence() {
 }
 
 #[test]
-fn the_version_is_three_point_zero() {
-    assert_eq!(version(), Version { major: 3, minor: 0 });
-    assert_eq!(Version::OF_THIS_PACKAGE, Version { major: 3, minor: 0 });
+fn the_version_is_four_point_zero() {
+    assert_eq!(version(), Version { major: 4, minor: 0 });
+    assert_eq!(Version::OF_THIS_PACKAGE, Version { major: 4, minor: 0 });
 }
 
 #[test]
@@ -103,12 +103,13 @@ fn constants_are_those_of_the_paper() {
     assert_eq!(choices, (1, 2, 3));
     assert_eq!(streams::VLAN_ANY, 0);
     assert_eq!((streams::ENTRY_OCTETS, streams::ENTRIES, streams::LONGEST), (12, 256, 3_072));
-    assert_eq!(Setup::HISTORY, 2..=64);
+    assert_eq!(Setup::HISTORY, 2..=512);
     assert_eq!(Setup::TIMEOUT, Milliseconds(1)..=Milliseconds(3_600_000));
     assert_eq!(Setup::RATE, TicksPerSecond(1)..=TicksPerSecond(10_000));
     assert_eq!(Setup::PATHS, 2..=8);
-    // The format, eight numbers of the setup, five of the window, nine counters and the base.
-    assert_eq!(WORDS, 24);
+    // The format, eight numbers of the setup, four of the window and the timer, the marks, nine counters
+    // and the base.
+    assert_eq!((WORDS, MARK_WORDS), (1 + 8 + 4 + 8 + 9 + 1, 512 / 64));
     assert_eq!((cards::KIND_END, cards::KIND_FLUSH_ORDER), (0x00, 0x10));
     assert_eq!((cards::KIND_RAW_CODE, cards::KIND_MILLIVOLTS), (0x11, 0x12));
     assert_eq!(cards::FLUSH_ORDER_OCTETS, 5);
@@ -117,7 +118,7 @@ fn constants_are_those_of_the_paper() {
     assert_eq!((tape::KIND_TICK, tape::KIND_RESET), (0x03, 0x04));
     assert_eq!((tape::KIND_LATENT_RESET, tape::KIND_LATENT_TEST), (0x05, 0x06));
     assert_eq!((tape::KIND_SETUP, tape::LONGEST), (0x0F, 4_096));
-    assert_eq!((STACK, tape::STACK, tape::OUTPUT), (256, 54_784, 53_513));
+    assert_eq!((STACK, tape::STACK, tape::OUTPUT), (512, 55_296, 53_513));
 }
 
 #[test]
@@ -167,7 +168,7 @@ const SETUP: Setup = Setup {
     rule: Rule::Vector,
     take_tagless: true,
     usage: Usage::Individual,
-    history: 64,
+    history: 512,
     timeout: Milliseconds(3_600_000),
     rate: TicksPerSecond(10_000),
     paths: 8,
@@ -187,7 +188,7 @@ fn a_state_keeps_its_setup() {
             }
         }
     }
-    let bad = Setup { history: 65, ..SETUP };
+    let bad = Setup { history: 513, ..SETUP };
     assert_eq!((bad.check(), State::fresh(&bad)), (Err(Refusal::HISTORY), Err(Refusal::HISTORY)));
 }
 
@@ -205,10 +206,70 @@ fn a_state_tells_where_its_first_number_stands() {
     }
 }
 
+/// Numbers in the order of their arrival, and how far below the newest of them each then stands: across each
+/// end of a word of the marks that there is, and 511 below, the last place of the window.
+#[test]
+fn a_state_tells_its_marks() {
+    let below = [511, 510, 449, 448, 447, 320, 319, 192, 191, 128, 127, 64, 63, 62, 1, 0];
+    let mut state = State::fresh(&Setup { history: 512, ..SETUP }).unwrap();
+    assert_eq!((state.marks(), state.mark(0)), ([0; MARK_WORDS], false));
+    for k in below {
+        assert_eq!(state.numbered(600 - k), Ok(Verdict::Pass));
+    }
+    let marks = |k: u16| below.contains(&k);
+    for k in 0..=600 {
+        assert_eq!(state.mark(usize::from(k)), marks(k), "{k}");
+    }
+    assert!(!state.mark(usize::MAX));
+    let word = |i: u16| (0..64).filter(|bit| marks(64 * i + bit)).map(|bit| 1 << bit).sum::<u64>();
+    assert_eq!(state.marks(), [0, 1, 2, 3, 4, 5, 6, 7].map(word));
+
+    // Shown as one number: 511 places below the newest are 512 digits.
+    let digits: String = (0..512).rev().map(|k| if marks(k) { '1' } else { '0' }).collect();
+    assert!(format!("{state:?}").contains(&format!("marks: 0b{digits}, ")), "{state:?}");
+    let mut state = State::fresh(&SETUP).unwrap();
+    assert!(format!("{state:?}").contains("marks: 0b0, "));
+    for number in [10, 13, 12] {
+        assert_eq!(state.numbered(number), Ok(Verdict::Pass));
+    }
+    assert!(format!("{state:?}").contains("marks: 0b1011, "));
+}
+
+/// A window of 512 places: what comes 500 places behind the newest is late and passes, once; 512 behind is
+/// too far.
+#[test]
+fn a_slow_arm_is_late_and_no_rogue() {
+    let mut state = State::fresh(&SETUP).unwrap();
+    for number in 0..=500 {
+        assert_eq!(state.numbered(2 * number), Ok(Verdict::Pass));
+    }
+    for (number, verdict) in [
+        (501, Verdict::Pass),
+        (500, Verdict::Discard),
+        (501, Verdict::Discard),
+        (489, Verdict::Pass),
+        (488, Verdict::Discard),
+    ] {
+        assert_eq!(state.numbered(number), Ok(verdict), "{number}");
+    }
+    assert_eq!((state.counters().order, state.counters().rogue), (502, 1));
+}
+
 #[test]
 fn words_that_hold_no_state_make_none() {
     assert_eq!(State::from_words([0; WORDS]), Err(Refusal::STATE));
     assert_eq!(State::from_words([u64::MAX; WORDS]), Err(Refusal::STATE));
+    // A mark at the history length, in the marks' last word but one.
+    let mut state = State::fresh(&Setup { history: 400, ..SETUP }).unwrap();
+    assert_eq!(state.numbered(7), Ok(Verdict::Pass));
+    for (k, sound) in [(399, true), (400, false), (447, false), (448, false), (511, false)] {
+        let mut words = *state.words();
+        words[10 + k / 64] |= 1 << (k % 64);
+        assert_eq!(
+            State::from_words(words).map(|state| state.mark(k)),
+            sound.then_some(true).ok_or(Refusal::STATE)
+        );
+    }
 }
 
 #[test]

@@ -3,7 +3,7 @@ pub const MATCH: u8 = 1;
 pub const SEQUENCE: u8 = 0;
 pub const INDIVIDUAL: u8 = 1;
 pub const SHORTEST_HISTORY: u16 = 2;
-pub const LONGEST_HISTORY: u16 = 64;
+pub const LONGEST_HISTORY: u16 = 512;
 
 /// A span of time. Milliseconds were once loaded as ticks; only `full_ticks` turns one into the
 /// other.

@@ -1,4 +1,5 @@
-use super::setup::{Setup, Ticks, LONGEST_HISTORY, VECTOR};
+use super::marks::Marks;
+use super::setup::{Setup, Ticks, VECTOR};
 
 pub(super) const NEWEST_AT_RESET: u16 = u16::MAX;
 
@@ -29,8 +30,7 @@ pub struct Counters {
 pub struct State {
     pub setup: Setup,
     pub newest: u16,
-    /// Mark i, for the place i below the newest, is bit i.
-    pub marks: u64,
+    pub marks: Marks,
     /// The mark of the first packet's place, while the window still has it.
     pub first: Option<u16>,
     pub take_any: bool,
@@ -48,7 +48,7 @@ impl State {
         Ok(State {
             setup,
             newest: NEWEST_AT_RESET,
-            marks: 0,
+            marks: Marks::NONE,
             first: None,
             take_any: true,
             ticks_left: Ticks(0),
@@ -59,23 +59,24 @@ impl State {
 
     /// The paragraph "Sound state", and "a first place kept as still in the window has its mark set,
     /// and take-any and match keep none". Under take-any the ticks may still run: a packet without a
-    /// number has set them, one that passed or, in individual use, one that was discarded.
-    #[inline]
+    /// number has set them, one that passed or, in individual use, one that was discarded. Every step
+    /// asks this first.
+    #[inline(always)]
     pub fn is_sound(&self) -> bool {
         if self.setup.check().is_err() || self.ticks_left > self.setup.full_ticks() {
             return false;
         }
         if self.take_any {
-            self.newest == NEWEST_AT_RESET && self.marks == 0 && self.first.is_none()
+            self.newest == NEWEST_AT_RESET && self.marks == Marks::NONE && self.first.is_none()
         } else {
             self.ticks_left >= Ticks(1)
                 && match self.setup.rule {
                     VECTOR => {
-                        self.marks & 1 == 1
-                            && self.marks & !self.window() == 0
-                            && self.first.is_none_or(|first| self.is_marked(first))
+                        self.marks.is_set(0)
+                            && self.marks.are_within(self.setup.history)
+                            && self.first.is_none_or(|first| self.marks.is_set(first))
                     }
-                    _ => self.marks == 0 && self.first.is_none(),
+                    _ => self.marks == Marks::NONE && self.first.is_none(),
                 }
         }
     }
@@ -87,16 +88,6 @@ impl State {
         } else {
             Err(14)
         }
-    }
-
-    /// Whether the mark is set, which none beyond the 64 is.
-    fn is_marked(&self, mark: u16) -> bool {
-        self.marks.checked_shr(mark.into()).is_some_and(|from| from & 1 == 1)
-    }
-
-    /// The bits of marks 0 to H - 1, for an H in range.
-    pub(super) fn window(&self) -> u64 {
-        u64::MAX >> (LONGEST_HISTORY - self.setup.history)
     }
 
     /// One packet with its number, or without one.

@@ -4,6 +4,7 @@
 //! a refused state keeps its values. The steps without their check are for a state that is known to
 //! be sound.
 
+use super::marks::Marks;
 use super::setup::{Ticks, INDIVIDUAL, MATCH, VECTOR};
 use super::state::{State, Verdict, NEWEST_AT_RESET};
 
@@ -55,7 +56,7 @@ impl State {
     fn begin(&mut self, number: u16) -> Verdict {
         self.newest = number;
         if self.setup.rule == VECTOR {
-            self.marks = 1;
+            self.marks.set(0);
             self.first = Some(0);
         }
         self.take_any = false;
@@ -94,44 +95,39 @@ impl State {
     }
 
     fn late(&mut self, below: u16) -> Verdict {
-        let mark = 1 << below;
-        if self.marks & mark != 0 {
+        if self.marks.is_set(below) {
             return Verdict::Discard;
         }
-        self.marks |= mark;
+        self.marks.set(below);
         count(&mut self.counters.order);
         Verdict::Pass
     }
 
-    /// Moves the marks d places, 0 < d < H, and the first place with them. The marks that leave are
-    /// the highest d of the H: no mark that enters on the way can leave, so the clear ones among them
-    /// are what single moves count.
+    /// Moves the marks d places, 0 < d < H, and the first place with them. No mark that enters on the
+    /// way can leave, so the clear ones among those that leave are what single moves count.
     #[inline]
     fn slide(&mut self, d: u16) {
         let stays = self.setup.history - d;
-        let lost = self.clear_from(stays);
-        add(&mut self.counters.lost, lost);
-        match self.first {
-            // The first place stays, so all that leave are below it.
-            Some(first) if first < stays => {
-                add(&mut self.counters.before_first, lost);
-                self.first = Some(first + d);
-            }
-            // It leaves too, and is none of the clear ones: its mark is set.
-            Some(first) => {
-                let below = self.clear_from(first);
-                add(&mut self.counters.before_first, below);
-                self.first = None;
-            }
-            None => {}
+        if let Some(first) = self.first.filter(|&first| first >= stays) {
+            // The first place leaves too, and is none of the clear ones: its mark is set.
+            let below = self.clear_from(first);
+            add(&mut self.counters.before_first, below);
+            self.first = None;
         }
-        self.marks = (self.marks << d | 1) & self.window();
+        let lost = u64::from(d) - u64::from(self.marks.slide(self.setup.history, d));
+        self.marks.set(0);
+        add(&mut self.counters.lost, lost);
+        if let Some(first) = &mut self.first {
+            // It stays, so all that leave are below it.
+            add(&mut self.counters.before_first, lost);
+            *first += d;
+        }
     }
 
     /// How many marks are clear from that one on, up to the last of the H.
     #[inline]
     fn clear_from(&self, mark: u16) -> u64 {
-        u64::from(self.setup.history - mark) - u64::from((self.marks >> mark).count_ones())
+        u64::from(self.setup.history - mark) - u64::from(self.marks.count_from(mark))
     }
 
     /// One tick, and whether it timed out.
@@ -164,7 +160,7 @@ impl State {
     #[inline]
     pub(in crate::plain) fn clear(&mut self) {
         self.newest = NEWEST_AT_RESET;
-        self.marks = 0;
+        self.marks = Marks::NONE;
         self.first = None;
         self.take_any = true;
         self.ticks_left = Ticks(0);

@@ -36,3 +36,10 @@ below-zero : (place (65536 ∷ []) 65473 ≡ 65473)
     × (passes 64 (65536 ∷ []) 32768 ≡ false)
 unfolding passes place nearest near among newestPlace
 below-zero = (refl, refl, refl, refl)
+
+-- H 512, first 0: 65,025 stands 511 places below the first and passes; 65,024 does not
+far-below-zero : (place (65536 ∷ []) 65025 ≡ 65025)
+    × (passes 512 (65536 ∷ []) 65025 ≡ true)
+    × (passes 512 (65536 ∷ []) 65024 ≡ false)
+unfolding passes place nearest near among newestPlace
+far-below-zero = (refl, refl, refl)

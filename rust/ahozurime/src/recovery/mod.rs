@@ -50,4 +50,4 @@ mod state;
 
 pub use generator::Generator;
 pub use setup::{Rule, Setup, Usage};
-pub use state::{Counters, Latent, State, Ticked, Verdict, WORDS};
+pub use state::{Counters, Latent, State, Ticked, Verdict, MARK_WORDS, WORDS};

@@ -61,7 +61,7 @@ pub struct Setup {
     pub take_tagless: bool,
     /// What is recovered, and so what restarts the timer.
     pub usage: Usage,
-    /// The history length, within [`HISTORY`](Setup::HISTORY), 2 to 64: how many numbers the window
+    /// The history length, within [`HISTORY`](Setup::HISTORY), 2 to 512: how many numbers the window
     /// has.
     pub history: u16,
     /// Without a packet that restarts the timer for so long, any number is taken next: within

@@ -6,6 +6,9 @@ use core::fmt;
 /// How many words a state has.
 pub const WORDS: usize = sys::AHZ_S_WORDS;
 
+/// How many words its marks have: a bit for each number of the longest window.
+pub const MARK_WORDS: usize = sys::AHZ_MARK_WORDS;
+
 // An answer becomes one of these three without a branch, since they have its numbers.
 
 /// What becomes of a packet. `as u8` gives the answer of the raw call.
@@ -280,12 +283,20 @@ impl State {
         (!self.take_any()).then_some(self.words[sys::AHZ_S_NEWEST] as u16)
     }
 
-    /// The marks of the window: bit k is set where the number k below the newest has passed. There are
-    /// none under [`Rule::Match`](super::Rule::Match).
+    /// The marks of the window, 64 in a word: bit k % 64 of word k / 64 is set where the number k below the
+    /// newest has passed. There are none under [`Rule::Match`](super::Rule::Match).
     #[must_use]
     #[inline]
-    pub fn marks(&self) -> u64 {
-        self.words[sys::AHZ_S_MARKS]
+    pub fn marks(&self) -> [u64; MARK_WORDS] {
+        core::array::from_fn(|word| self.words[sys::AHZ_S_MARKS + word])
+    }
+
+    /// Mark k of the window: whether the number k below the newest has passed. From the history length on
+    /// there is none.
+    #[must_use]
+    #[inline]
+    pub fn mark(&self, k: usize) -> bool {
+        self.marks().get(k / 64).is_some_and(|word| word >> (k % 64) & 1 == 1)
     }
 
     /// How far below the newest number the first one since the last reset stands in the window: 0 where
@@ -322,12 +333,23 @@ impl State {
     }
 }
 
+/// One number in binary, mark 0 its lowest bit.
+struct Marks([u64; MARK_WORDS]);
+
+impl fmt::Debug for Marks {
+    fn fmt(&self, f: &mut fmt::Formatter) -> fmt::Result {
+        let highest = self.0.iter().rposition(|&word| word != 0).unwrap_or(0);
+        write!(f, "{:#b}", self.0[highest])?;
+        self.0[..highest].iter().rev().try_for_each(|word| write!(f, "{word:064b}"))
+    }
+}
+
 impl fmt::Debug for State {
     fn fmt(&self, f: &mut fmt::Formatter) -> fmt::Result {
         f.debug_struct("State")
             .field("setup", &self.setup())
             .field("newest", &self.newest())
-            .field("marks", &format_args!("{:#b}", self.marks()))
+            .field("marks", &Marks(self.marks()))
             .field("first_below", &self.first_below())
             .field("take_any", &self.take_any())
             .field("ticks_left", &self.ticks_left())

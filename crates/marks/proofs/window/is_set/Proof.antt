@@ -1,28 +1,22 @@
--- `marks::is_set` meets its promise: a mark past the word is clear. Assumes nothing.
-use Prim.Native.Nat.{_/_, _^_}
-use mathlib.Core.Path.{_≡_}
-use native.Mathlib.Nat.{div-eq-of-lt}
-use native.Mathlib.Omega.{arith}
-use lib.Pow.{pow-mono}
+-- `marks::is_set` meets its promise: a mark is a digit of its word. Assumes nothing.
+use Prim.Native.Nat.{ℕ}
+use mathlib.Core.Path.{sym, ap}
+use lib.Dec.{eqb}
 use borrow.Author.Needs.{needs}
-use Rattle.marks.specs.Window.{mark}
+use Rattle.marks.specs.Window.{wordsOf, number, mark}
+use Rattle.marks.proofs.Digits.{digit}
+use Rattle.marks.proofs.Words.{digit-at}
 use Rattle.marks.proofs.window.is_set.Statement.{statement}
 use Rattle.marks.proofs.window.is_set.Tie as tie
 
-shr-result : tie.Need-shr-result
-shr-result c = search needs
-
--- a mark of the word
 returns : tie.Need-returns
-unfolding mark
-returns c = search needs
-
--- a mark past it
-returns-2 : tie.Need-returns-2
-unfolding mark
-returns-2 c =
-    let none : c .before .args .marks .0 / 2 ^ c .before .args .k ≡ 0 = div-eq-of-lt (omega (arith, pow-mono (c .if1 .left))) in
-    rw none
+unfolding mark number digit
+returns c =
+    let a = c .before .args in
+    rw (c .word-at .ensures) (ap (λ (n : ℕ). eqb n 1) (sym (digit-at (a .k) (wordsOf (a .marks)) (search needs))))
 
 pub is-set-spec : {M : Type 1} → statement M
-is-set-spec = tie.close (search (tie.spec, shr-result, returns, returns-2, needs))
+is-set-spec =
+    tie.close
+    (tie.spec
+    (λ c κs. search needs) (λ c. search needs) (λ c. search needs) returns)

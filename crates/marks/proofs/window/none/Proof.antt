@@ -6,7 +6,7 @@ use Rattle.marks.proofs.window.none.Tie as tie
 
 returns : tie.Need-returns
 unfolding none
-returns c = search needs
+returns c = c .alone .ensures
 
 pub none-spec : {M : Type 1} → statement M
-none-spec = tie.close (tie.spec returns)
+none-spec = tie.close (search (tie.spec, returns, needs))
