@@ -11,7 +11,9 @@ unfolding wordsOf
 returns c = record { answer = rw (lt-leb 31 _ (c .if1 .taken)); buffer = rw (lt-leb 31 _ (c .if1 .taken)) }
 
 returns-2 : tie.Need-returns-2
-returns-2 c = let y = c .before .before in rw (y .before .before .over .ensures) at (y .keep .ensures)
+returns-2 c =
+    let kept = c .before .before in
+    rw (kept .before .before .over .ensures) at (kept .keep .ensures)
 
 pub keep-short-spec : {M : Type 1} → statement M
 keep-short-spec = tie.close (tie.spec returns (λ c κs. search needs) (λ c κs. search needs) (λ c. search needs) returns-2)
