@@ -9,7 +9,7 @@ use Rattle.recovery.specs.declared.Timed.{Timed}
 use Rattle.recovery.specs.declared.Changed.{Changed}
 use Rattle.recovery.specs.Soundness.{sound}
 use Rattle.recovery.specs.Resets.{resetState, resetOf}
-use Rattle.recovery.specs.Timer.{withLeft, timed, tickOf}
+use Rattle.recovery.specs.Timer.{timed, tickOf}
 use Rattle.recovery.specs.Packets.{settled, heard, packetOf}
 use Rattle.recovery.specs.LatentErrors.{rebased, latentResetOf}
 use Rattle.calls.specs.declared.Call.{Call}

@@ -1,6 +1,7 @@
 -- What is done to words, word by word, as done to their number: cut off, moved within words and by whole ones, counted. Assumes nothing.
 use Prim.Native.Nat.{ℕ, zero, suc, _+_, _-_, _*_, _/_, _%_, _^_, _<_, _≤_, min}
-use native.Mathlib.Nat.{sub-zero, add-zero, zero-div, mul-assoc, zero-mod, mod-one, mod-lt, mod-le, mod-eq-of-lt, min-eq-left, min-eq-right, add-mul, mul-right-comm, mul-div-cancel, mul-mod-left, mul-div-mul-right}
+use native.Mathlib.Nat.{sub-zero, add-zero, zero-div, mul-assoc, zero-mod, mod-one, mod-lt, mod-le, mod-eq-of-lt}
+use native.Mathlib.Nat.{min-eq-left, min-eq-right, add-mul, mul-right-comm, mul-div-cancel, mul-mod-left, mul-div-mul-right}
 use native.Mathlib.Nat.{lt-of-le-of-lt, lt-of-lt-of-le}
 use native.Mathlib.Omega.{arith}
 use mathlib.Core.Path.{_≡_, refl, sym, ap, _∙_}
@@ -42,7 +43,7 @@ unfolding cutWords
 cut-fit i end [] fit = fit
 cut-fit i end (w ∷ words) fit = (lt-of-le-of-lt (mod-le w _) (fit .0), cut-fit (suc i) end words (fit .1))
 
-pub cut-value : (i end : ℕ) (words : List ℕ) → Fit words → valueOf (cutWords i end words) ≡ valueOf words % 2 ^ (end - bits * i)
+cut-value : (i end : ℕ) (words : List ℕ) → Fit words → valueOf (cutWords i end words) ≡ valueOf words % 2 ^ (end - bits * i)
 unfolding cutWords valueOf
 cut-value i end [] fit = sym (zero-mod (2 ^ (end - bits * i)))
 cut-value i end (w ∷ words) fit =
@@ -76,13 +77,13 @@ carryWords b under [] = []
 carryWords b under (w ∷ words) = (w * 2 ^ b % 2 ^ bits + under / 2 ^ (bits - b)) ∷ carryWords b w words
 
 -- a word moved is as many of its digits as there is room for
-pub carry-part : (b w : ℕ) → b < bits → w * 2 ^ b % 2 ^ bits ≡ w % 2 ^ (bits - b) * 2 ^ b
+carry-part : (b w : ℕ) → b < bits → w * 2 ^ b % 2 ^ bits ≡ w % 2 ^ (bits - b) * 2 ^ b
 carry-part b w p =
     let apart : bits - b + b ≡ bits = omega arith in
     rw apart at (mod-pow-add (w * 2 ^ b) (bits - b) b) ∙ rw (mul-div-cancel w (pow-pos b), mul-mod-left w (2 ^ b)) (omega arith)
 
 -- what a word carries over is less than b digits have
-pub carry-low : (b w : ℕ) → b < bits → w < 2 ^ bits → w / 2 ^ (bits - b) < 2 ^ b
+carry-low : (b w : ℕ) → b < bits → w < 2 ^ bits → w / 2 ^ (bits - b) < 2 ^ b
 carry-low b w p q =
     let apart : b + (bits - b) ≡ bits = omega arith in
     shr-lt b (bits - b) (rw apart q)
@@ -108,7 +109,7 @@ carry-fit b under [] p q fit = fit
 carry-fit b under (w ∷ words) p q fit = (carry-word b under w p q, carry-fit b w words p (fit .0) (fit .1))
 
 -- the number of those is the number moved, with what came in, and cut off at its last word
-pub carry-value : (b under : ℕ) (words : List ℕ) → b < bits → under < 2 ^ bits → Fit words
+carry-value : (b under : ℕ) (words : List ℕ) → b < bits → under < 2 ^ bits → Fit words
     → valueOf (carryWords b under words) ≡ (valueOf words * 2 ^ b + under / 2 ^ (bits - b)) % 2 ^ (bits * length words)
 unfolding carryWords valueOf
 carry-value b under [] p q fit = sym (mod-one (0 * 2 ^ b + under / 2 ^ (bits - b)))
@@ -210,7 +211,8 @@ bit-past i bit j (w ∷ words) p =
 
 -- the number grows by the bit where its digit was 0, and by nothing where it was 1
 pub bit-value : (i b j : ℕ) (words : List ℕ) → j ≤ i → i < j + length words
-    → valueOf (withBit i (2 ^ b) j words) + digit b (getD words (i - j) 0) * 2 ^ (b + bits * (i - j)) ≡ valueOf words + 2 ^ (b + bits * (i - j))
+    → valueOf (withBit i (2 ^ b) j words) + digit b (getD words (i - j) 0) * 2 ^ (b + bits * (i - j))
+    ≡ valueOf words + 2 ^ (b + bits * (i - j))
 unfolding withBit valueOf
 bit-value i b j [] p q = absurd (omega arith)
 bit-value i b j (w ∷ words) p q =
@@ -255,7 +257,7 @@ pick-past i j sum (w ∷ words) p =
     let other : eqb i j ≡ false = ne-eqb i j (λ e. omega arith) in
     rw (other, or-zero-r sum) (pick-past i (suc j) sum words (omega arith))
 
-pub pick-at : (i j : ℕ) (words : List ℕ) → j ≤ i → picked i j 0 words ≡ getD words (i - j) 0
+pick-at : (i j : ℕ) (words : List ℕ) → j ≤ i → picked i j 0 words ≡ getD words (i - j) 0
 unfolding picked
 pick-at i j [] p = refl
 pick-at i j (w ∷ words) p =

@@ -1,10 +1,10 @@
--- Words and the number that they are: what a word of it is, and that marks are their number. Each law is over a list of words of any length.
--- Assumes nothing.
-use Prim.Native.Nat.{ℕ, zero, suc, _+_, _-_, _*_, _/_, _%_, _^_, _<_, _≤_}
+-- Words and the number that they are: what a word of it is, and that marks are their number. Each law is over a list of words of any
+-- length. Assumes nothing.
+use Prim.Native.Nat.{ℕ, zero, suc, _+_, _*_, _/_, _%_, _^_, _<_}
 use native.Mathlib.Nat.{div-one, zero-div, mod-lt, mod-eq-of-lt}
 use native.Mathlib.Omega.{arith}
 use mathlib.Core.Path.{_≡_, refl, sym, ap, subst, _∙_}
-use mathlib.Core.Bool.{Bool, true, false, _&&_}
+use mathlib.Core.Bool.{true}
 use mathlib.Core.List.{List, [], _∷_}
 use lib.ListN.{length, getD}
 use lib.Arith.{digits-lt}
@@ -128,7 +128,8 @@ itself a = rw (yes (a .w0), yes (a .w1), yes (a .w2), yes (a .w3), yes (a .w4), 
     yes n = eq-eqb n n refl
 
 -- marks that are the same cut off at h have none there or above
-pub clear-by : (h : ℕ) (marks low : Marks) → Fit (wordsOf marks) → low ≡ marksOf (number marks % 2 ^ h) → sameWords marks low ≡ clearFrom h marks
+pub clear-by : (h : ℕ) (marks low : Marks) → Fit (wordsOf marks) → low ≡ marksOf (number marks % 2 ^ h)
+    → sameWords marks low ≡ clearFrom h marks
 unfolding clearFrom
 clear-by h marks low fit is =
     let n = number marks in

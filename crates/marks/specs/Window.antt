@@ -1,5 +1,5 @@
 -- The marks of the vector rule (document 01, "Numbering and recovery"). All marks together are one number, whose binary digit k is mark k.
--- How they are kept is said by `most`, `bits`, `number` and `marksOf` alone. Assumes nothing.
+-- How they are kept is said by what stands before `mark` alone. Assumes nothing.
 use Prim.Native.Nat.{ℕ, zero, suc, _+_, _-_, _*_, _/_, _%_, _^_, min, max}
 use mathlib.Core.Path.{_≡_}
 use mathlib.Core.List.{List, [], _∷_}

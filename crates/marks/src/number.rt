@@ -1,5 +1,5 @@
 // The eight words as one number (`number` of specs/Window): cut off, moved by whole words and within them, counted. Each word is made as
-// every other is, without a branch, so that none of it depends on where a mark stands.
+// every other is, so that the work does not go by where a mark stands or how far it moves.
 ghost use Rattle.marks.specs.Window.{bits, most, wordsOf, sameWords, number, marksOf};
 ghost use mathlib.Core.Path.{_≡_};
 ghost use mathlib.Core.Bool.{cond};

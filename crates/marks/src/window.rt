@@ -120,7 +120,7 @@ fn slide_word(marks: Marks, reach: u32, places: u32) -> Slid
     Slid { marks: moved, lost }
 }
 
-// A slide of a longer one. Those that leave are as many as there are fewer ones afterwards, counted word by word.
+// A slide of a longer one. As many ones have left as there are fewer afterwards, counted word by word.
 fn slide_words(marks: Marks, reach: u32, places: u32) -> Slid
     requires { ⌜ reach ≤ most ⌝ }
     ensures { λ r. ⌜ Goes reach places marks r ⌝ }

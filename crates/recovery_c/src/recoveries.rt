@@ -132,6 +132,7 @@ fn step_in(call: Call, state: &mut [u64]) -> u8
     match states::read_short(state) {
         Held::State(s) => step_short(s, call, state),
         Held::Nothing => {
+            // what is handed on lies in memory, and the call itself need not
             let again = call;
             long::step_apart(again, state)
         }

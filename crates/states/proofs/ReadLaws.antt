@@ -5,7 +5,7 @@ use mathlib.Core.Path.{_≡_}
 use mathlib.Core.Bool.{Bool, true, false, cond, _&&_}
 use mathlib.Core.List.{List}
 use lib.Dec.{leb, eqb}
-use borrow.Author.Tests.{leb-true, eqb-false, eq-eqb}
+use borrow.Author.Tests.{leb-true, eqb-false}
 use Rattle.octets.proofs.Bools.{by-cases, either, both}
 use Rattle.setup.specs.Range.{checked}
 use Rattle.recovery.specs.declared.State.{State}

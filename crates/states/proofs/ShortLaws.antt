@@ -56,4 +56,6 @@ module _ (w : List ℕ) where
 
   -- a short state is put with the words past the first as they are
   pub same-short : (s : State) → past (marksIn w) ≡ past (s .marks) → shortIn w s ≡ s
-  same-short s e = ap (λ (m : Marks). storedState (s .setup) (s .newest) m (s .first) (s .«take_any») (s .left .0) (s .counters) (s .base)) (same-past _ (s .marks) refl e)
+  same-short s e =
+      ap (λ (m : Marks). storedState (s .setup) (s .newest) m (s .first) (s .«take_any») (s .left .0) (s .counters) (s .base))
+      (same-past _ (s .marks) refl e)

@@ -12,6 +12,7 @@ use Rattle.octets.specs.Copy.{Puts}
 use Rattle.setup.specs.declared.Setup.{Setup}
 use Rattle.setup.specs.Values.{setupOf}
 use Rattle.marks.specs.declared.Marks.{Marks}
+use Rattle.marks.specs.Window.{bits}
 use Rattle.rules.specs.FirstPlace.{nth}
 use Rattle.counters.specs.declared.Counters.{Counters}
 use Rattle.recovery.specs.declared.State.{State}
@@ -158,10 +159,11 @@ ready w = held w && eqb (checked (setupIn w)) 0
 abbrev pub ReadsState : List ℕ → Held → Type 0
 ReadsState w r = r ≡ cond (ready w) (held-in.State (stateOf w)) held-in.Nothing
 
--- of `read_short`, the same where the history has no more marks than a word and those past it are clear
+-- a history that has no more marks than a word, and those past it clear
 abbrev pub short : List ℕ → Bool
-short w = leb (word 4 w) 64 && nonePast w
+short w = leb (word 4 w) bits && nonePast w
 
+-- of `read_short`, the same where that is so
 abbrev pub ReadsShort : List ℕ → Held → Type 0
 ReadsShort w r = r ≡ cond (short w && ready w) (held-in.State (stateOf w)) held-in.Nothing
 

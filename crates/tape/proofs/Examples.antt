@@ -24,9 +24,10 @@ use Rattle.tape.specs.Player.{figures, linesFrom, played, tapeChecks, ou
 use Rattle.tape.specs.Examples.{setupFor, setup, stuck, cases, AsPrinted}
 
 pub as-printed : AsPrinted
-unfolding be16 be32 valueOf number wordIn marksOf mark none clearFrom set reach moved lostBy slid lostIn fullTicks ticksOf setupChecks checked isVector isIndividual plus
-    freshState begunFrom awaits partsAgree keepsFirst sound apart signed difference late onward byDifference vector restarted timed tickOf
-    resetState resetCounted byRule numbered firstMarks first opened carried holeBy holesIn traced tracing counted settled heard packetOf less
-    absolute figure exceeds latentError latentTestOf cases setupFor setup stuck outputOf tapeChecks verdict played linesFrom figures
-    outcomeAt eventAt checks begins known width setupAt callAt runs text faultText labels listed countersText decimalIn
+unfolding be16 be32 valueOf number wordIn marksOf mark none clearFrom set reach moved lostBy slid lostIn fullTicks ticksOf setupChecks
+    checked isVector isIndividual plus freshState begunFrom awaits partsAgree keepsFirst sound apart signed difference late onward
+    byDifference vector restarted timed tickOf resetState resetCounted byRule numbered firstMarks first opened carried holeBy holesIn traced
+    tracing counted settled heard packetOf less absolute figure exceeds latentError latentTestOf cases setupFor setup stuck outputOf
+    tapeChecks verdict played linesFrom figures outcomeAt eventAt checks begins known width setupAt callAt runs text faultText labels listed
+    countersText decimalIn
 as-printed = refl

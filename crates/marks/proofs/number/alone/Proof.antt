@@ -2,7 +2,7 @@
 use native.Mathlib.Omega.{arith}
 use mathlib.Core.Path.{refl}
 use borrow.Author.Needs.{needs}
-use Rattle.marks.specs.Window.{valueOf, wordsOf}
+use Rattle.marks.specs.Window.{valueOf}
 use Rattle.marks.proofs.Words.{marks-by}
 use Rattle.marks.proofs.number.alone.Statement.{statement}
 use Rattle.marks.proofs.number.alone.Tie as tie

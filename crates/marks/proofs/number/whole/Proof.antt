@@ -3,7 +3,7 @@ use Prim.Native.Nat.{_-_}
 use native.Mathlib.Nat.{add-zero}
 use borrow.Author.Needs.{needs}
 use Rattle.marks.specs.Window.{wordsOf, number}
-use Rattle.marks.proofs.Words.{eight, marks-by}
+use Rattle.marks.proofs.Words.{marks-by}
 use Rattle.marks.proofs.Counted.{raised, listed, moved-fit, moved-number}
 use Rattle.marks.proofs.number.whole.Statement.{statement}
 use Rattle.marks.proofs.number.whole.Tie as tie

@@ -1,5 +1,5 @@
 -- `marks::window::slide_words` meets its contract: the ones that are fewer afterwards are those that left. Assumes nothing.
-use Prim.Native.Nat.{ℕ, _+_, _-_, _*_, _%_, _^_, _≤_, min}
+use Prim.Native.Nat.{_+_, _-_, _*_, _%_, _^_, min}
 use native.Mathlib.Omega.{arith}
 use mathlib.Core.Path.{_≡_, ap, _∙_}
 use lib.Count.{ones}
@@ -62,5 +62,6 @@ pub slide-words-spec : {M : Type 1} → statement M
 slide-words-spec =
     tie.close
     (tie.spec
-    (λ c κs. search needs) (λ c κs. search needs) (λ c κs. search needs) (λ c κs. search needs) (λ c κs. search needs) sub-left sub-lost (λ c. search needs)
+    (λ c κs. search needs) (λ c κs. search needs) (λ c κs. search needs) (λ c κs. search needs) (λ c κs. search needs)
+    sub-left sub-lost (λ c. search needs)
     returns)
