@@ -25,8 +25,8 @@
  * From outside the archive needs memcpy and memset, and nothing else. Only ahz_tape_v3 uses them.
  *
  * Stack. A call takes at most AHZ_STACK octets, and ahz_tape_v3 at most AHZ_TAPE_STACK; tests/c/stack.c holds both targets to it. In this
- * version it finds 54,864 octets on aarch64 and 54,728 on x86_64 for ahz_tape_v3, what its memcpy and memset take among them; 320 and 392
- * for ahz_numbered, whose history may be long; and at most 176 and 400 for any other call. The bounds are the archive's own: what memcpy
+ * version it finds 54,880 octets on aarch64 and 54,792 on x86_64 for ahz_tape_v3, what its memcpy and memset take among them; 256 and 488
+ * for ahz_numbered, whose history may be long; and at most 112 and 504 for any other call. The bounds are the archive's own: what memcpy
  * and memset take comes on top, and what the dynamic linker takes where it looks these two up at their first call. On x86_64 the code also
  * writes below its stack pointer, into the red zone of the System V convention.
  *

@@ -2,11 +2,11 @@
 use Prim.Native.Nat.{ℕ, zero, suc, _+_, _-_, _*_, _/_, _%_, _^_, _<_, _≤_, min}
 use native.Mathlib.Nat.{sub-zero, add-zero, zero-div, mul-assoc, zero-mod, mod-one, mod-lt, mod-le, mod-eq-of-lt}
 use native.Mathlib.Nat.{min-eq-left, min-eq-right, add-mul, mul-right-comm, mul-div-cancel, mul-mod-left, mul-div-mul-right}
-use native.Mathlib.Nat.{lt-of-le-of-lt, lt-of-lt-of-le}
+use native.Mathlib.Nat.{lt-of-le-of-lt, lt-of-lt-of-le, add-mul-div-right, zero-mul}
 use native.Mathlib.Omega.{arith}
 use mathlib.Core.Path.{_≡_, refl, sym, ap, _∙_}
 use mathlib.Core.Bool.{true, false, cond}
-use mathlib.Core.List.{List, [], _∷_}
+use mathlib.Core.List.{List, [], _∷_, _++_}
 use lib.Arith.{digits-lt}
 use lib.Bits.{bitAnd, bitOr, and-mask, and-zero-r, or-lt, or-zero-l, or-zero-r, or-shifted}
 use lib.Dec.{leb, ltb, eqb}
@@ -17,7 +17,7 @@ use borrow.Author.Tests.{ltb-true, ltb-false, leb-true, leb-false, eqb-true, eqb
 use Rattle.octets.proofs.Bools.{by-cases, either}
 use Rattle.marks.specs.declared.Marks.{Marks}
 use Rattle.marks.specs.Window.{bits, valueOf, wordsOf, number, wordIn, clearFrom}
-use Rattle.marks.proofs.Digits.{digit, ones-left, cut-cut, cut-moved, none-below, or-one, ones-up}
+use Rattle.marks.proofs.Digits.{digit, ones-left, cut-cut, cut-moved, or-one}
 use Rattle.marks.proofs.Words.{Fit, at-fit, word-at}
 
 -- from word i on, what is below `end`
@@ -174,20 +174,41 @@ listed-value k i (suc n) row fit =
     rw (listed-value k (suc i) n row fit, apart, longer, mod-pow-add (v / 2 ^ j) (bits * n) bits, shr-shr v j bits)
     (ap (λ (w : ℕ). v / 2 ^ (j + bits) % 2 ^ (bits * n) * 2 ^ bits + w) (sym (word-at (k + i) row fit)))
 
--- moved by q whole words, words are those of the row q words lower
-module _ (n q : ℕ) (words : List ℕ) (few : q ≤ n) (fit : Fit words) where
-  pub moved-fit : Fit (listed (n - q) 0 n (raised n words))
-  moved-fit = listed-fit (n - q) 0 n (raised n words) (raised-fit n words fit)
+-- words of 0 above the others are nothing to their number
+above-fit : (n : ℕ) (words : List ℕ) → Fit words → Fit (words ++ raised n [])
+above-fit n [] fit = raised-fit n [] fit
+above-fit n (w ∷ words) fit = (fit .0, above-fit n words (fit .1))
 
-  pub moved-number : valueOf (listed (n - q) 0 n (raised n words)) ≡ valueOf words * 2 ^ (bits * q) % 2 ^ (bits * n)
-  moved-number =
-      let all : bits * n ≡ bits * q + bits * (n - q + 0) = omega arith in
-      let v = valueOf words in
-      listed-value (n - q) 0 n (raised n words) (raised-fit n words fit)
-      ∙ ap (λ (m : ℕ). m / 2 ^ (bits * (n - q + 0)) % 2 ^ (bits * n))
-      (raised-value n words ∙ ap (λ (m : ℕ). v * 2 ^ m) all
-      ∙ rw (pow-add 2 (bits * q) (bits * (n - q + 0)), ← mul-assoc v (2 ^ (bits * q)) (2 ^ (bits * (n - q + 0)))))
-      ∙ ap (λ (m : ℕ). m % 2 ^ (bits * n)) (mul-div-cancel (v * 2 ^ (bits * q)) (pow-pos (bits * (n - q + 0))))
+above-value : (n : ℕ) (words : List ℕ) → valueOf (words ++ raised n []) ≡ valueOf words
+unfolding valueOf
+above-value n [] = raised-value n [] ∙ zero-mul (2 ^ (bits * n))
+above-value n (w ∷ words) = ap (λ (m : ℕ). m * 2 ^ bits + w) (above-value n words)
+
+-- n words of a row that has n words of 0 on either side of others
+abbrev pub amid : ℕ → ℕ → List ℕ → List ℕ
+amid n k words = listed k 0 n (raised n (words ++ raised n []))
+
+module _ (n k : ℕ) (words : List ℕ) (fit : Fit words) where
+  row-fit : Fit (raised n (words ++ raised n []))
+  row-fit = raised-fit n (words ++ raised n []) (above-fit n words fit)
+
+  pub amid-fit : Fit (amid n k words)
+  amid-fit = listed-fit k 0 n _ row-fit
+
+  pub amid-number : valueOf (amid n k words) ≡ valueOf words * 2 ^ (bits * n) / 2 ^ (bits * k) % 2 ^ (bits * n)
+  amid-number = listed-value k 0 n _ row-fit ∙ rw (add-zero k, raised-value n (words ++ raised n []), above-value n words)
+
+-- lower in it, a number is moved up; higher, down
+pub moved-up : (m q n : ℕ) → q ≤ m → n * 2 ^ (bits * m) / 2 ^ (bits * (m - q)) ≡ n * 2 ^ (bits * q)
+moved-up m q n few =
+    let all : bits * m ≡ bits * q + bits * (m - q) = omega arith in
+    rw (all, pow-add 2 (bits * q) (bits * (m - q)), ← mul-assoc n (2 ^ (bits * q)) (2 ^ (bits * (m - q))))
+    (mul-div-cancel (n * 2 ^ (bits * q)) (pow-pos (bits * (m - q))))
+
+pub moved-down : (m i n : ℕ) → n * 2 ^ (bits * m) / 2 ^ (bits * (m + i)) ≡ n / 2 ^ (bits * i)
+moved-down m i n =
+    let all : bits * (m + i) ≡ bits * m + bits * i = omega arith in
+    rw (all, ← shr-shr (n * 2 ^ (bits * m)) (bits * m) (bits * i), mul-div-cancel n (pow-pos (bits * m)))
 
 -- the word for which a bit is meant gets it, from word j on
 unfoldable pub withBit : ℕ → ℕ → ℕ → List ℕ → List ℕ
@@ -290,31 +311,34 @@ unfoldable pub onesOf : List ℕ → ℕ
 onesOf [] = 0
 onesOf (w ∷ words) = ones w + onesOf words
 
-pub ones-value : (words : List ℕ) → Fit words → ones (valueOf words) ≡ onesOf words
+ones-value : (words : List ℕ) → Fit words → ones (valueOf words) ≡ onesOf words
 unfolding onesOf valueOf ones
 ones-value [] fit = refl
 ones-value (w ∷ words) fit = ones-cat bits (valueOf words) w (fit .0) ∙ omega (arith, ones-value words (fit .1))
 
--- those below the end of a row are those of the row and those below it
-pub ones-parted : (k n m : ℕ) → ones (m % 2 ^ (k + n)) ≡ ones (m / 2 ^ k % 2 ^ n) + ones (m % 2 ^ k)
-ones-parted k n m =
-    let turned : k + n ≡ n + k = omega arith in
-    rw (turned, mod-pow-add m n k) (ones-cat k (m / 2 ^ k % 2 ^ n) (m % 2 ^ k) (mod-lt m (pow-pos k)))
+-- from digit b of the first word on: what is left of it, and the others
+ones-rest : (b w : ℕ) (words : List ℕ) → b < bits → w < 2 ^ bits → Fit words
+    → ones (valueOf (w ∷ words) / 2 ^ b) ≡ ones (w / 2 ^ b) + onesOf words
+unfolding valueOf
+ones-rest b w words p q fit =
+    let v = valueOf words in
+    let apart : bits - b + b ≡ bits = omega arith in
+    let room : 2 ^ (bits - b) * 2 ^ b ≡ 2 ^ bits = rw apart at (sym (pow-add 2 (bits - b) b)) in
+    let whole : v * 2 ^ bits + w ≡ w + v * 2 ^ (bits - b) * 2 ^ b = rw (mul-assoc v (2 ^ (bits - b)) (2 ^ b), room) (omega arith) in
+    let parts : (v * 2 ^ bits + w) / 2 ^ b ≡ v * 2 ^ (bits - b) + w / 2 ^ b =
+    rw (whole, add-mul-div-right w (v * 2 ^ (bits - b)) (pow-pos b)) (omega arith) in
+    let left : w / 2 ^ b < 2 ^ (bits - b) = shr-lt (bits - b) b (rw apart q) in
+    rw (parts, ones-cat (bits - b) v (w / 2 ^ b) left) (omega (arith, ones-value words fit))
 
--- moved by d digits and cut off at r, a number keeps the ones that are not among its last d below r
-pub ones-moved : (r d m : ℕ) → ones (m * 2 ^ d % 2 ^ r) ≡ ones (m % 2 ^ (r - min d r))
-ones-moved r d m =
-    by-cases (leb r d)
-    (λ all.
-    let none : r - min d r ≡ 0 = omega (arith, leb-true r d all) in
-    rw (none-below r d m (leb-true r d all), none, mod-one m))
-    (λ some.
-    let stay : r - min d r ≡ r - d = omega (arith, leb-false r d some) in
-    let apart : r ≡ r - d + d = omega (arith, leb-false r d some) in
-    rw (stay)
-    (ap (λ (n : ℕ). ones (m * 2 ^ d % 2 ^ n)) apart
-    ∙ ap ones (mod-pow-add (m * 2 ^ d) (r - d) d ∙ rw (mul-div-cancel m (pow-pos d), mul-mod-left m (2 ^ d)) (omega arith))
-    ∙ ones-up d (m % 2 ^ (r - d))))
+-- from digit k of a number on: of its words from word k / bits on, the first from its digit k % bits on and the others
+pub ones-from : (k n w : ℕ) (words : List ℕ) → valueOf (w ∷ words) ≡ n / 2 ^ (bits * (k / bits)) → w < 2 ^ bits → Fit words
+    → ones (n / 2 ^ k) ≡ ones (w / 2 ^ (k % bits)) + onesOf words
+ones-from k n w words are p fit =
+    let apart : k ≡ bits * (k / bits) + k % bits = omega arith in
+    ap (λ (m : ℕ). ones (n / 2 ^ m)) apart
+    ∙ ap ones (sym (shr-shr n (bits * (k / bits)) (k % bits)))
+    ∙ ap (λ (m : ℕ). ones (m / 2 ^ (k % bits))) (sym are)
+    ∙ ones-rest (k % bits) w words (omega arith) p fit
 
 -- words of which the number is 0 are 0
 none-left : (words : List ℕ) → valueOf words ≡ 0 → words ≡ raised (length words) []

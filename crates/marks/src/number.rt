@@ -118,24 +118,10 @@ pub(crate) fn count(word: u64) -> u32
     u64::count_ones(word)
 }
 
-// How many marks are set, word by word.
-pub(crate) fn ones(marks: Marks) -> u32
-    ensures { λ r. ⌜ r ≡ onesIn (number marks) ⌝ }
-{
-    count(marks.w0)
-        + count(marks.w1)
-        + count(marks.w2)
-        + count(marks.w3)
-        + count(marks.w4)
-        + count(marks.w5)
-        + count(marks.w6)
-        + count(marks.w7)
-}
-
-// The marks moved by q whole words.
-fn whole(marks: Marks, q: u32) -> Marks
-    requires { ⌜ q ≤ 8 ⌝ }
-    ensures { λ r. ⌜ r ≡ marksOf (number marks * 2 ^ (bits * q) % 2 ^ most) ⌝ }
+// Eight words, from the i-th on, of a row that has the marks in its middle and eight words of none on either side.
+fn eight(marks: Marks, i: usize) -> Marks
+    requires { ⌜ i ≤ 16 ⌝ }
+    ensures { λ r. ⌜ r ≡ marksOf (number marks * 2 ^ most / 2 ^ (bits * i) % 2 ^ most) ⌝ }
 {
     let row = [
         0,
@@ -154,18 +140,41 @@ fn whole(marks: Marks, q: u32) -> Marks
         marks.w5,
         marks.w6,
         marks.w7,
+        0,
+        0,
+        0,
+        0,
+        0,
+        0,
+        0,
+        0,
     ];
-    let at = (8 - q) as usize;
     Marks {
-        w0: row[at],
-        w1: row[at + 1],
-        w2: row[at + 2],
-        w3: row[at + 3],
-        w4: row[at + 4],
-        w5: row[at + 5],
-        w6: row[at + 6],
-        w7: row[at + 7],
+        w0: row[i],
+        w1: row[i + 1],
+        w2: row[i + 2],
+        w3: row[i + 3],
+        w4: row[i + 4],
+        w5: row[i + 5],
+        w6: row[i + 6],
+        w7: row[i + 7],
     }
+}
+
+// The marks moved by q whole words.
+fn whole(marks: Marks, q: u32) -> Marks
+    requires { ⌜ q ≤ 8 ⌝ }
+    ensures { λ r. ⌜ r ≡ marksOf (number marks * 2 ^ (bits * q) % 2 ^ most) ⌝ }
+{
+    eight(marks, (8 - q) as usize)
+}
+
+// The marks from word i on.
+fn behind(marks: Marks, i: u32) -> Marks
+    requires { ⌜ i ≤ 8 ⌝ }
+    ensures { λ r. ⌜ r ≡ marksOf (number marks / 2 ^ (bits * i)) ⌝ }
+{
+    eight(marks, (8 + i) as usize)
 }
 
 // A word moved by b marks, with those that the word below it carries over.
@@ -205,4 +214,20 @@ pub(crate) fn moved(marks: Marks, places: u32) -> Marks
     ensures { λ r. ⌜ r ≡ marksOf (number marks * 2 ^ places % 2 ^ most) ⌝ }
 {
     within(whole(marks, words_of(places)), places % WORD)
+}
+
+// How many marks are set from mark k on, word by word: what is left of its word, and the words behind it.
+pub(crate) fn ones_from(marks: Marks, k: u32) -> u32
+    requires { ⌜ k ≤ most ⌝ }
+    ensures { λ r. ⌜ r ≡ onesIn (number marks / 2 ^ k) ⌝ }
+{
+    let rest = behind(marks, k / WORD);
+    count(rest.w0 >> (k % WORD))
+        + count(rest.w1)
+        + count(rest.w2)
+        + count(rest.w3)
+        + count(rest.w4)
+        + count(rest.w5)
+        + count(rest.w6)
+        + count(rest.w7)
 }

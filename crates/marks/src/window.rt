@@ -12,7 +12,7 @@ use crate::number::alone;
 use crate::number::count;
 use crate::number::cut;
 use crate::number::moved;
-use crate::number::ones;
+use crate::number::ones_from;
 use crate::number::same;
 use crate::number::with;
 use crate::number::word_at;
@@ -120,16 +120,16 @@ fn slide_word(marks: Marks, reach: u32, places: u32) -> Slid
     Slid { marks: moved, lost }
 }
 
-// A slide of a longer one. As many ones have left as there are fewer afterwards, counted word by word.
+// A slide of a longer one. With nothing at its length and above, the ones that leave are all from the first of the leaving marks on.
 fn slide_words(marks: Marks, reach: u32, places: u32) -> Slid
     requires { ⌜ reach ≤ most ⌝ }
     ensures { λ r. ⌜ Goes reach places marks r ⌝ }
 {
     let within = cut(marks, reach);
-    let before = ones(within);
-    let moved = cut(moved(within, places), reach);
-    let left = before - ones(moved);
+    let leaving = count_leaving(reach, places);
+    let left = ones_from(within, reach - leaving);
     let lost = (places - left) as u64;
+    let moved = cut(moved(within, places), reach);
     Slid { marks: moved, lost }
 }
 
