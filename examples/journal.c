@@ -1,7 +1,8 @@
-/* A charge journal over two paths, from end to end. A head numbers its journal frames and puts the R-TAG in. Path A brings every frame;
- * path B loses one, delays one and repeats one. A second stream brings charge reports, and of these path B brings none. The receiver looks
- * each frame's stream up, lets each number through once, takes the tag off and walks the cards. Among the frames are one of each stream
- * without a number, one of no stream and one that is cut. tools/c compiles and runs this, and compares what it prints with journal.out. */
+/* A charge journal over two paths, from end to end. A head numbers its journal frames, puts the R-TAG in and the check behind them, which
+ * these rigs leave on. Path A brings every frame; path B loses one, delays one and repeats one. A second stream brings charge reports, and
+ * of these path B brings none. The receiver tries each frame's check and takes it off, looks the stream up, lets each number through once,
+ * takes the tag off and walks the cards. Among the frames are one of each stream without a number, one of no stream, one that is cut and
+ * one with a bit changed on its way. tools/c compiles and runs this, and compares what it prints with journal.out. */
 #include <ahozurime.h>
 
 #include <inttypes.h>
@@ -12,7 +13,7 @@ enum { JOURNAL, REPORTS, STREAMS }; /* the handles, each the place of its stream
 enum { JOURNAL_FRAMES = 5, REPORT_FRAMES = 3 };
 
 typedef struct {
-    uint8_t octets[AHZ_FRAME_LONGEST];
+    uint8_t octets[AHZ_FCS_LONGEST];
     size_t length;
 } Frame;
 
@@ -63,6 +64,15 @@ static int put_number(Frame *frame, ahz_generator_t *generator) {
     return 0;
 }
 
+/* Puts the check behind a frame: 0 where the program can go on. */
+static int put_check(Frame *frame) {
+    Frame sent;
+    const uint8_t answer = ahz_append_fcs(frame->octets, frame->length, sent.octets, sizeof sent.octets, &sent.length);
+    if (answer != AHZ_DONE) return refused("ahz_append_fcs", answer);
+    *frame = sent;
+    return 0;
+}
+
 /* Each card's number has its unit: a raw code that is taken for millivolts, or for blocks, does not compile. */
 static void walk(const uint8_t *payload, size_t octets) {
     static const ahz_calibration_t calibration = {.gain = 0.25, .offset = 0.5};
@@ -95,16 +105,22 @@ static int arrive(char path, const Frame *frame, ahz_state_t *states) {
     Frame bare;
     uint16_t handle = STREAMS, number = 0;
     uint8_t answer, verdict;
-    size_t payload;
+    size_t length, payload;
     int numbered;
 
     printf("path %c, ", path);
-    answer = ahz_header_read(&header, frame->octets, frame->length);
+    answer = ahz_check_fcs(frame->octets, frame->length);
+    if (answer != AHZ_DONE) {
+        (void)refused("ahz_check_fcs", answer);
+        return 0;
+    }
+    length = ahz_without_fcs(frame->octets, frame->length); /* all other calls take a frame without its check */
+    answer = ahz_header_read(&header, frame->octets, length);
     if (answer != AHZ_DONE) {
         (void)refused("ahz_read", answer);
         return 0;
     }
-    answer = ahz_lookup(table, sizeof table, frame->octets, frame->length, &handle);
+    answer = ahz_lookup(table, sizeof table, frame->octets, length, &handle);
     if (answer == AHZ_NO_STREAM) {
         printf("no stream\n");
         return 0;
@@ -130,10 +146,11 @@ static int arrive(char path, const Frame *frame, ahz_state_t *states) {
         return 0;
     }
     if (numbered) {
-        answer = ahz_remove(frame->octets, frame->length, bare.octets, sizeof bare.octets, &bare.length);
+        answer = ahz_remove(frame->octets, length, bare.octets, sizeof bare.octets, &bare.length);
         if (answer != AHZ_DONE) return refused("ahz_remove", answer);
     } else {
         bare = *frame;
+        bare.length = length;
     }
     payload = ahz_payload(bare.octets, bare.length);
     printf("pass, %u octets\n", (unsigned)bare.length);
@@ -189,13 +206,14 @@ static const ahz_setup_t setups[STREAMS] = {
 int main(void) {
     ahz_state_t states[STREAMS];
     Frame j[JOURNAL_FRAMES], r[REPORT_FRAMES];
-    Frame no_number = journal(9), no_number_either = report(9), stranger = journal(9), cut = journal(9);
+    Frame no_number = journal(9), no_number_either = report(9), stranger = journal(9), cut = journal(9), changed;
+    Frame *const others[] = {&no_number, &no_number_either, &stranger, &cut};
     const struct {
         char path;
         const Frame *frame;
     } arrivals[] = {{'B', &j[0]}, {'B', &j[0]},      {'A', &j[0]}, {'A', &j[1]}, {'B', &j[3]},     {'A', &r[0]},
                     {'B', &j[2]}, {'A', &no_number}, {'A', &j[2]}, {'A', &r[1]}, {'B', &stranger}, {'A', &j[3]},
-                    {'B', &j[4]}, {'A', &j[4]},      {'B', &cut},  {'A', &r[2]}, {'A', &no_number_either}};
+                    {'B', &j[4]}, {'A', &j[4]},      {'B', &cut},  {'A', &r[2]}, {'B', &changed},  {'A', &no_number_either}};
     ahz_generator_t journal_generator = ahz_generator_fresh(), report_generator = ahz_generator_fresh();
     unsigned i;
 
@@ -209,14 +227,19 @@ int main(void) {
     }
     for (i = 0; i < JOURNAL_FRAMES; i++) {
         j[i] = journal(i);
-        if (put_number(&j[i], &journal_generator) != 0) return 1;
+        if (put_number(&j[i], &journal_generator) != 0 || put_check(&j[i]) != 0) return 1;
     }
     for (i = 0; i < REPORT_FRAMES; i++) {
         r[i] = report(i);
-        if (put_number(&r[i], &report_generator) != 0) return 1;
+        if (put_number(&r[i], &report_generator) != 0 || put_check(&r[i]) != 0) return 1;
     }
     stranger.octets[5] = 0x08; /* the last octet of its destination */
-    cut.length = AHZ_FRAME_SHORTEST - 1;
+    cut.length = 16; /* behind its C-TAG, by its sender: so its check is good, and the frame is not */
+    for (i = 0; i < sizeof others / sizeof others[0]; i++) {
+        if (put_check(others[i]) != 0) return 1;
+    }
+    changed = j[4];
+    changed.octets[21] ^= 0x01; /* its number, 4, is 5 now: without the check it would pass once more */
 
     for (i = 0; i < sizeof arrivals / sizeof arrivals[0]; i++) {
         if (arrive(arrivals[i].path, arrivals[i].frame, states) != 0) return 1;

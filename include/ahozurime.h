@@ -20,15 +20,17 @@
  *
  * Between calls. The archive has no variables: nothing is kept after a call returns, no call allocates, and none calls back. So calls may
  * run in several threads at once, and in an interrupt that breaks into another call, on memory of their own: what one of them writes
- * must not be lent to another meanwhile.
+ * must not be lent to another meanwhile. Beside its code the archive has constants, such as the words of ahz_crc32's tables, which are
+ * only read.
  *
  * From outside the archive needs memcpy and memset, and nothing else. Only ahz_tape_v3 uses them.
  *
- * Stack. A call takes at most AHZ_STACK octets, and ahz_tape_v3 at most AHZ_TAPE_STACK; tests/c/stack.c holds both targets to it. In this
- * version it finds 54,880 octets on aarch64 and 54,792 on x86_64 for ahz_tape_v3, what its memcpy and memset take among them; 256 and 488
- * for ahz_numbered, whose history may be long; and at most 112 and 504 for any other call. The bounds are the archive's own: what memcpy
- * and memset take comes on top, and what the dynamic linker takes where it looks these two up at their first call. On x86_64 the code also
- * writes below its stack pointer, into the red zone of the System V convention.
+ * Stack. A call takes at most AHZ_STACK octets, ahz_crc32 and those on a check sequence AHZ_FCS_STACK, and ahz_tape_v3 AHZ_TAPE_STACK;
+ * tests/c/stack.c holds both targets to it. In this version it finds 54,928 octets on aarch64 and 54,808 on x86_64 for ahz_tape_v3, what
+ * its memcpy and memset take among them; 1,216 and 1,104 for a check sequence; 320 and 504 for ahz_numbered, whose history may be long;
+ * and at most 160 and 504 for any other call. The bounds are the archive's own: what memcpy and memset take comes on top, and what the
+ * dynamic linker takes where it looks these two up at their first call. On x86_64 the code also writes below its stack pointer, into the
+ * red zone of the System V convention.
  *
  * Floating point. Only ahz_volts computes with doubles. It assumes that they are rounded to nearest, that subnormal numbers are not taken
  * for zero, and that no floating-point exception traps; it may raise their flags. Its doubles are handed over in floating-point registers,
@@ -78,13 +80,17 @@
  *     keep their names: history lengths from 65 to 512 are no longer refused there, and that is all.
  *   Tapes of versions 2 and 3 run as they did, but for those of such a history length: they were a fault, 16, and run.
  *   Sources: one that makes the typed calls needs no change where it does not read the marks, and one that makes the others the new name.
- *     Words have to be read by AHZ_S_.., as before. With 24 words in place of AHZ_S_WORDS a fresh state is refused by 8, a step by 14. */
+ *     Words have to be read by AHZ_S_.., as before. With 24 words in place of AHZ_S_WORDS a fresh state is refused by 8, a step by 14.
+ *
+ * From 4.0 to 4.1 the frame check sequence was added: ahz_crc32, ahz_check_fcs, ahz_without_fcs, ahz_append_fcs, AHZ_FCS_.. and refusal 28.
+ *   Refusals 1 and 2 are for a frame with its check too, and their sentences say so. A program for 4.0 needs no change. */
 #define AHZ_VERSION_MAJOR 4
-#define AHZ_VERSION_MINOR 0
+#define AHZ_VERSION_MINOR 1
 #define AHZ_VERSION (AHZ_VERSION_MAJOR * 65536u + AHZ_VERSION_MINOR)
 
-/* Octets of stack that are enough for ahz_tape_v3, and for every other call. */
+/* Octets of stack that are enough for ahz_tape_v3; for ahz_crc32 and the three calls with fcs in their name; and for every other call. */
 #define AHZ_TAPE_STACK 55296
+#define AHZ_FCS_STACK 1536
 #define AHZ_STACK 512
 
 /* Before each call and typed form that has an answer: a program that does not look at it is warned. With GCC before C23 and C++17 a cast to
@@ -110,8 +116,8 @@ enum {
     AHZ_DONE = 0,
 
     /* The refusals. */
-    AHZ_R_FRAME_SHORT = 1,     /* a frame under 14 octets */
-    AHZ_R_FRAME_LONG = 2,      /* a frame over 1,522 octets */
+    AHZ_R_FRAME_SHORT = 1,     /* a frame under 14 octets, or under 18 with its check */
+    AHZ_R_FRAME_LONG = 2,      /* a frame over 1,522 octets, or over 1,526 with its check */
     AHZ_R_TAG_CUT = 3,         /* the octets end before the type after a tag */
     AHZ_R_TAG_TWICE = 4,       /* 8100 after a C-TAG; 8100 or F1C1 after an R-TAG */
     AHZ_R_VLAN = 5,            /* VLAN id 4,095 */
@@ -133,6 +139,7 @@ enum {
     AHZ_R_CARD_CUT = 21,       /* the octets end inside a card */
     AHZ_R_CALIBRATION = 22,    /* not 0 < gain <= 1 or not -100 <= offset <= 100, a NaN among them */
     AHZ_R_TAKEN_OR_USE = 27,   /* setup: taken flag or use not 0 or 1 */
+    AHZ_R_FCS = 28,            /* the frame check sequence does not match */
 
     /* The faults of a tape. */
     AHZ_FAULT_KIND = 23,       /* an event of no known kind */
@@ -164,8 +171,10 @@ AHZ_USE_ANSWER uint32_t ahz_version(void);
 
 /* ---- Frames: destination 6, source 6, an optional C-TAG, an optional R-TAG, a type of 2, the payload; no frame check sequence ---- */
 
-/* All numbers in octets are big-endian. A C-TAG is 81 00 and 16 bits, the VLAN id in the low 12. An R-TAG is F1 C1, two reserved octets,
- * written zero and ignored on reading, and a number of 16 bits. */
+/* All numbers in octets are big-endian, but for a frame's check. A C-TAG is 81 00 and 16 bits, the VLAN id in the low 12. An R-TAG is
+ * F1 C1, two reserved octets, written zero and ignored on reading, and a number of 16 bits.
+ * All calls but ahz_check_fcs and ahz_without_fcs take a frame without its check. Where a rig leaves it on, call ahz_check_fcs, and hand
+ * the first ahz_without_fcs octets to the others. */
 enum {
     AHZ_FRAME_SHORTEST = 14,
     AHZ_FRAME_LONGEST = 1522,
@@ -205,6 +214,29 @@ AHZ_USE_ANSWER uint8_t ahz_insert(const uint8_t *frame, size_t frame_octets, uin
 /* Writes the frame without its R-TAG to out, and the result's length, frame_octets - AHZ_RTAG_OCTETS, to length. Later octets of out stay.
  * Answers 0. Refusals, in this order: 1 to 5 as ahz_read; 9 the frame has no R-TAG; 8 out is shorter than the result. */
 AHZ_USE_ANSWER uint8_t ahz_remove(const uint8_t *frame, size_t frame_octets, uint8_t *out, size_t out_octets, size_t *length);
+
+/* ---- The frame check sequence: behind the payload 4 octets, the CRC-32 of all octets before them, low octet first ---- */
+
+/* Tags are not read here: a frame whose check is good may still be refused by ahz_read. */
+enum {
+    AHZ_FCS_OCTETS = 4,
+    AHZ_FCS_SHORTEST = 18,     /* of a frame with its check, as the next */
+    AHZ_FCS_LONGEST = 1526
+};
+
+/* The CRC-32 of IEEE 802.3 of any octets, also of none: then it is 0. Of "123456789" it is 0xCBF43926. Refuses nothing. */
+AHZ_USE_ANSWER uint32_t ahz_crc32(const uint8_t *data, size_t data_octets);
+
+/* Checks a frame with its check. A good one: 0. Refusals, in this order: 1 under 18 octets; 2 over 1,526; 28 the check does not match. */
+AHZ_USE_ANSWER uint8_t ahz_check_fcs(const uint8_t *frame, size_t frame_octets);
+
+/* How many octets the frame has without its check: the first ones of what is lent. 0 where ahz_check_fcs refuses it, and only there. It
+ * makes the check again: a program that has just had a 0 may take frame_octets - AHZ_FCS_OCTETS. */
+AHZ_USE_ANSWER size_t ahz_without_fcs(const uint8_t *frame, size_t frame_octets);
+
+/* Writes the frame and its check to out, and the result's length, frame_octets + AHZ_FCS_OCTETS, to length. Later octets of out stay.
+ * Answers 0. Refusals, in this order: 1 the frame is under 14 octets; 2 over 1,522; 8 out is shorter than the result. */
+AHZ_USE_ANSWER uint8_t ahz_append_fcs(const uint8_t *frame, size_t frame_octets, uint8_t *out, size_t out_octets, size_t *length);
 
 /* ---- Stream tables: entries of 12 octets, kind 1 or 2, address 6, choice 1, VLAN 2, handle 2 ---- */
 
@@ -277,7 +309,7 @@ AHZ_USE_ANSWER uint8_t ahz_check_setup_v2(uint8_t rule, uint8_t taken, uint8_t u
 /* The words of a state. A state that a call wrote may be kept, copied or stored by its words. It is the first AHZ_S_WORDS words of what is
  * lent; later ones are neither looked at nor changed. To check words that were stored, call ahz_latent_test: it changes nothing and refuses
  * what is no sound state of this format. Sound words are not therefore those that were stored: a bit that changed in a counter is not seen.
- * Store a check of your own beside them. */
+ * Store a check of your own beside them: ahz_crc32 of their octets is one. */
 enum {
     AHZ_S_FORMAT = 0,          /* AHZ_STATE_FORMAT */
     AHZ_S_RULE = 1,            /* below 2^8 */
@@ -533,8 +565,8 @@ AHZ_USE_ANSWER AHZ_INLINE int ahz_is_refusal(uint8_t answer) {
 /* What a refusal or a fault of a tape says, in a few words; of any other number, that it is neither. */
 AHZ_USE_ANSWER AHZ_INLINE const char *ahz_refusal_sentence(uint8_t refusal) {
     switch (refusal) {
-    case AHZ_R_FRAME_SHORT: return "frame under 14 octets";
-    case AHZ_R_FRAME_LONG: return "frame over 1,522 octets";
+    case AHZ_R_FRAME_SHORT: return "frame under 14 octets, or under 18 with its check";
+    case AHZ_R_FRAME_LONG: return "frame over 1,522 octets, or over 1,526 with its check";
     case AHZ_R_TAG_CUT: return "octets end before the type after a tag";
     case AHZ_R_TAG_TWICE: return "8100 after a C-TAG, or 8100 or F1C1 after an R-TAG";
     case AHZ_R_VLAN: return "VLAN id 4,095";
@@ -560,6 +592,7 @@ AHZ_USE_ANSWER AHZ_INLINE const char *ahz_refusal_sentence(uint8_t refusal) {
     case AHZ_FAULT_SETUP: return "setup missing or repeated on a tape";
     case AHZ_FAULT_LONG: return "tape over 4,096 octets";
     case AHZ_R_TAKEN_OR_USE: return "taken flag or use not 0 or 1";
+    case AHZ_R_FCS: return "frame check sequence does not match";
     default: return "no refusal";
     }
 }

@@ -12,6 +12,10 @@ REAL(ahz_read);
 REAL(ahz_payload);
 REAL(ahz_insert);
 REAL(ahz_remove);
+REAL(ahz_crc32);
+REAL(ahz_check_fcs);
+REAL(ahz_without_fcs);
+REAL(ahz_append_fcs);
 REAL(ahz_check_table);
 REAL(ahz_lookup);
 REAL(ahz_generator);
@@ -98,6 +102,168 @@ uint8_t ahz_remove(const uint8_t *frame, size_t frame_octets, uint8_t *out, size
         memset(out + *length, 0, out_octets - *length);
     if (fault("refusal-writes") && answer == AHZ_R_OUTPUT_SHORT)
         memcpy(out, frame, out_octets);
+    return answer;
+}
+
+/* ---- The frame check sequence ---- */
+
+/* Faults named crc-.. are in the CRC-32 itself: all calls over it then make them, and agree with each other. */
+static int miscounts(void)
+{
+    return strncmp(chosen, "crc-", 4) == 0;
+}
+
+/* A CRC-32 by octets and the words of a table, each of them made by its eight steps. */
+static uint32_t miscounted(const uint8_t *data, size_t octets)
+{
+    uint32_t sum = fault("crc-starts-at-0") ? 0 : UINT32_MAX;
+
+    if (fault("crc-of-none") && octets == 0)
+        return sum;
+    if (fault("crc-16-bits"))
+        octets = (uint16_t)octets;
+    if (fault("crc-last-left-out") && octets > 0)
+        octets -= 1;
+    for (size_t at = 0; at < octets; at++) {
+        const uint8_t index = (uint8_t)sum ^ data[at];
+        uint32_t word = index;
+
+        for (int step = 0; step < 8; step++)
+            word = word >> 1 ^ (word & 1 ? 0xEDB88320 : 0);
+        if (fault("crc-wrong-word") && index == 200)
+            word ^= 0x10000;
+        sum = sum >> 8 ^ word;
+    }
+    if (fault("crc-not-inverted"))
+        return sum;
+    return fault("crc-high-first") ? __builtin_bswap32(~sum) : ~sum;
+}
+
+uint32_t ahz_crc32(const uint8_t *data, size_t data_octets)
+{
+    if (fault("sum-looks-behind"))
+        looked_at = data[data_octets];
+    return miscounts() ? miscounted(data, data_octets) : real_ahz_crc32(data, data_octets);
+}
+
+/* Whether so many octets, the low one first, are those of a number. */
+static int holds(const uint8_t *check, uint32_t number, int octets)
+{
+    for (int at = 0; at < octets; at++)
+        if (check[at] != (uint8_t)(number >> 8 * at))
+            return 0;
+    return 1;
+}
+
+/* The verdict on the last four octets of a frame of any length. Each fault compares them with another number, with a second one too, in
+ * part, or not at all. */
+static uint8_t verdict(const uint8_t *frame, size_t frame_octets)
+{
+    const uint8_t *check = frame + frame_octets - 4;
+    uint32_t number = ahz_crc32(frame, frame_octets - 4);
+
+    if (fault("check-in-itself"))
+        number = real_ahz_crc32(frame, frame_octets);
+    if (fault("check-last-out"))
+        number = real_ahz_crc32(frame, frame_octets - 5);
+    if (fault("check-high-first"))
+        number = __builtin_bswap32(number);
+    if (holds(check, number, fault("check-3-octets") ? 3 : 4) || fault("mismatch-good") ||
+        (fault("check-either-way") && holds(check, __builtin_bswap32(number), 4)) ||
+        (fault("check-inverted-too") && holds(check, ~number, 4)))
+        return AHZ_DONE;
+    return AHZ_R_FCS;
+}
+
+uint8_t ahz_check_fcs(const uint8_t *frame, size_t frame_octets)
+{
+    const size_t octets = fault("check-16-bits") ? (uint16_t)frame_octets : frame_octets;
+    uint64_t header[AHZ_H_WORDS];
+    uint8_t answer = real_ahz_check_fcs(frame, octets);
+
+    if ((fault("17-octets-checked") && octets == 17) || (fault("1527-checked") && octets == 1527))
+        return verdict(frame, octets);
+    if (fault("18-octets-refused") && octets == 18)
+        return AHZ_R_FRAME_SHORT;
+    if (fault("1526-refused") && octets == 1526)
+        return AHZ_R_FRAME_LONG;
+    if (((fault("28-before-1") && answer == AHZ_R_FRAME_SHORT && octets >= 4) || (fault("28-before-2") && answer == AHZ_R_FRAME_LONG)) &&
+        verdict(frame, octets) == AHZ_R_FCS)
+        return AHZ_R_FCS;
+    if (fault("check-reads-tags") && answer == AHZ_DONE)
+        return real_ahz_read(frame, octets - 4, header, AHZ_H_WORDS);
+    if (fault("check-taken-off")) {
+        if (answer == AHZ_DONE)
+            memset((uint8_t *)frame + octets - 4, 0, 4);
+        return answer;
+    }
+    /* A frame of a good length is judged here where there is a fault, and by the proved call where there is none. */
+    return *chosen != '\0' && (answer == AHZ_DONE || answer == AHZ_R_FCS) ? verdict(frame, octets) : answer;
+}
+
+size_t ahz_without_fcs(const uint8_t *frame, size_t frame_octets)
+{
+    const int fits = frame_octets >= AHZ_FCS_SHORTEST && frame_octets <= AHZ_FCS_LONGEST;
+    size_t octets = real_ahz_without_fcs(frame, frame_octets);
+
+    if (miscounts() && fits)
+        octets = verdict(frame, frame_octets) == AHZ_DONE ? frame_octets - 4 : 0;
+    if ((fault("part-of-28") && fits) || (fault("part-of-1527") && frame_octets == 1527))
+        return frame_octets - 4;
+    if (fault("part-one-short") && octets > 0)
+        return octets - 1;
+    if (fault("part-one-long") && octets > 0)
+        return octets + 1;
+    return octets;
+}
+
+/* A frame of any length and its check, as far as there is room. */
+static uint8_t append(const uint8_t *frame, size_t frame_octets, uint8_t *out, size_t room, size_t *length)
+{
+    uint32_t number = ahz_crc32(frame, frame_octets);
+
+    if (fault("append-high-first"))
+        number = __builtin_bswap32(number);
+    for (size_t at = 0; at < frame_octets + 4 && at < room; at++)
+        out[at] = at < frame_octets ? frame[at] : (uint8_t)(number >> 8 * (at - frame_octets));
+    *length = frame_octets + 4;
+    return AHZ_DONE;
+}
+
+uint8_t ahz_append_fcs(const uint8_t *frame, size_t frame_octets, uint8_t *out, size_t out_octets, size_t *length)
+{
+    const size_t result = frame_octets + 4, room = fault("append-room-16") ? (uint16_t)out_octets : out_octets;
+    const int fits = frame_octets >= AHZ_FRAME_SHORTEST && frame_octets <= AHZ_FRAME_LONGEST;
+    uint64_t header[AHZ_H_WORDS];
+    uint8_t answer;
+
+    if (fault("append-reads-tags") && (answer = real_ahz_read(frame, frame_octets, header, AHZ_H_WORDS)) != AHZ_DONE)
+        return answer;
+    if (fault("14-not-appended") && frame_octets == 14)
+        return AHZ_R_FRAME_SHORT;
+    if (fault("1522-not-appended") && frame_octets == 1522)
+        return AHZ_R_FRAME_LONG;
+    if (((fault("8-before-1") && frame_octets < 14) || (fault("8-before-2") && frame_octets > 1522)) && out_octets < result)
+        return AHZ_R_OUTPUT_SHORT;
+    if (((fault("13-appended") && frame_octets == 13) || (fault("1523-appended") && frame_octets == 1523)) && out_octets >= result)
+        return append(frame, frame_octets, out, out_octets, length);
+    if (fault("append-cut") && fits && out_octets == result - 1)
+        return append(frame, frame_octets, out, out_octets, length);
+    answer = real_ahz_append_fcs(frame, frame_octets, out, room, length);
+    if (fault("append-on-refusal") && answer == AHZ_R_OUTPUT_SHORT)
+        memcpy(out, frame, out_octets < frame_octets ? out_octets : frame_octets);
+    if ((fault("append-length-on-8") && answer == AHZ_R_OUTPUT_SHORT) || (fault("append-length-on-2") && answer == AHZ_R_FRAME_LONG))
+        *length = result;
+    if (answer != AHZ_DONE)
+        return answer;
+    if (miscounts() || fault("append-high-first"))
+        answer = append(frame, frame_octets, out, out_octets, length);
+    if (fault("append-clears-next") && out_octets > result)
+        out[result] = 0;
+    if (fault("append-behind"))
+        out[out_octets] = 0;
+    if (fault("append-length-less"))
+        *length = frame_octets;
     return answer;
 }
 

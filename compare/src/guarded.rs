@@ -224,6 +224,34 @@ pub fn remove(frame: &[u8], out: &[u8], length: usize) -> (u8, Vec<u8>, usize) {
     })
 }
 
+pub fn crc32(octets: &[u8]) -> u32 {
+    let mut lent = Lent::input(octets, OCTETS);
+    let answer = unsafe { sys::ahz_crc32(lent.at(), octets.len()) };
+    lent.stayed(octets, "the input");
+    answer
+}
+
+pub fn check_fcs(frame: &[u8]) -> u8 {
+    let mut lent = Lent::input(frame, OCTETS);
+    let answer = unsafe { sys::ahz_check_fcs(lent.at(), frame.len()) };
+    lent.stayed(frame, "the frame");
+    answer
+}
+
+pub fn without_fcs(frame: &[u8]) -> usize {
+    let mut lent = Lent::input(frame, OCTETS);
+    let answer = unsafe { sys::ahz_without_fcs(lent.at(), frame.len()) };
+    lent.stayed(frame, "the frame");
+    answer
+}
+
+/// The answer, the output and the length.
+pub fn append_fcs(frame: &[u8], out: &[u8], length: usize) -> (u8, Vec<u8>, usize) {
+    writes(frame, out, length, OCTETS, |at, output, told| unsafe {
+        sys::ahz_append_fcs(at, frame.len(), output, out.len(), told)
+    })
+}
+
 /// The answer, the output and the length.
 pub fn tape(tape: &[u8], out: &[u8], length: usize) -> (u8, Vec<u8>, usize) {
     writes(tape, out, length, octets_of_a_tape(tape), |at, output, told| unsafe {

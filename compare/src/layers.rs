@@ -111,6 +111,37 @@ pub fn remove(frame: &[u8], out: &mut [u8]) -> Length {
     )
 }
 
+// Frame check sequences.
+
+pub fn crc32(octets: &[u8]) -> u32 {
+    let said = plain::fcs::crc32(octets);
+    assert_eq!(guarded::crc32(octets), said, "of {octets:02X?}");
+    assert_eq!(ahozurime::fcs::crc32(octets), said, "of {octets:02X?}");
+    said
+}
+
+pub fn check_fcs(frame: &[u8]) -> Result<(), u8> {
+    let said = plain::fcs::check(frame);
+    assert_eq!(guarded::check_fcs(frame), verdict(said), "{frame:02X?}");
+    assert_eq!(ahozurime::fcs::check(frame).map_err(Refusal::number), said, "{frame:02X?}");
+    said
+}
+
+pub fn without_fcs(frame: &[u8]) -> &[u8] {
+    let raw = guarded::without_fcs(frame);
+    same_part(frame, plain::fcs::without(frame), ahozurime::fcs::without(frame), raw)
+}
+
+pub fn append_fcs(frame: &[u8], out: &mut [u8]) -> Length {
+    same_writes(
+        frame,
+        out,
+        |out| plain::fcs::append(frame, out),
+        |out| ahozurime::fcs::append(frame, out),
+        |out, length| guarded::append_fcs(frame, out, length),
+    )
+}
+
 // Stream tables.
 
 pub fn check_table(table: &[u8]) -> Result<(), u8> {

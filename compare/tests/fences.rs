@@ -7,6 +7,7 @@
 use compare::guarded::{within, Fence};
 use compare::layers::*;
 use compare::plain::cards::Calibration;
+use compare::plain::fcs;
 use compare::plain::recovery::{Milliseconds, Setup, State, INDIVIDUAL, MATCH, SEQUENCE, VECTOR};
 
 fn fenced(calls: impl Fn()) {
@@ -54,6 +55,22 @@ fn calls_on_frames() {
                 {
                     let _ = insert(frame, 9, &mut vec![7; room]);
                     let _ = remove(frame, &mut vec![7; room]);
+                }
+            });
+        }
+    });
+}
+
+/// Frames with their check, cut everywhere and too long; rooms too short, just long enough and longer.
+#[test]
+fn calls_on_checks() {
+    fenced(|| {
+        for frame in frames() {
+            let whole = [&frame[..], &fcs::crc32(&frame).to_le_bytes()].concat();
+            lengths(&whole, &[1_522, 1_523, 1_526, 1_527, 65_536, 70_000], |octets| {
+                let _ = (crc32(octets), check_fcs(octets), without_fcs(octets));
+                for room in [0, octets.len() + 3, octets.len() + 4, octets.len() + 9, 1_600] {
+                    let _ = append_fcs(octets, &mut vec![7; room]);
                 }
             });
         }

@@ -1,4 +1,4 @@
-/* Each constant of the header against the numbers of document 01, and each type against its width. It need only compile. */
+/* Each constant of the header against the numbers of documents 01 and 02, and each type against its width. It need only compile. */
 #include <ahozurime.h>
 
 #define JOINED(a, b) a##b
@@ -6,8 +6,8 @@
 #define HOLDS(what) typedef char NAMED(__LINE__)[(what) ? 1 : -1]
 
 /* The version, as the preprocessor sees it too. */
-#if AHZ_VERSION != 262144 || AHZ_VERSION_MAJOR != 4 || AHZ_VERSION_MINOR != 0
-#error "the version is not 4.0"
+#if AHZ_VERSION != 262145 || AHZ_VERSION_MAJOR != 4 || AHZ_VERSION_MINOR != 1
+#error "the version is not 4.1"
 #endif
 
 /* When the layer says no. */
@@ -15,7 +15,7 @@ HOLDS(AHZ_R_FRAME_SHORT == 1 && AHZ_R_FRAME_LONG == 2 && AHZ_R_TAG_CUT == 3 && A
 HOLDS(AHZ_R_TAG_THERE == 6 && AHZ_R_NO_TAG == 9 && AHZ_R_RESULT_LONG == 7 && AHZ_R_OUTPUT_SHORT == 8);
 HOLDS(AHZ_R_ENTRY_KIND == 10 && AHZ_R_ENTRY_CUT == 11 && AHZ_R_ENTRY_RANGE == 12 && AHZ_R_ENTRY_257 == 13 && AHZ_R_STATE == 14);
 HOLDS(AHZ_R_RULE == 15 && AHZ_R_HISTORY == 16 && AHZ_R_MILLISECONDS == 17 && AHZ_R_RATE == 18 && AHZ_R_PATHS == 19);
-HOLDS(AHZ_R_TAKEN_OR_USE == 27);
+HOLDS(AHZ_R_TAKEN_OR_USE == 27 && AHZ_R_FCS == 28);
 HOLDS(AHZ_R_CARD_KIND == 20 && AHZ_R_CARD_CUT == 21 && AHZ_R_CALIBRATION == 22);
 HOLDS(AHZ_FAULT_KIND == 23 && AHZ_FAULT_CUT == 24 && AHZ_FAULT_SETUP == 25 && AHZ_FAULT_LONG == 26);
 
@@ -31,6 +31,9 @@ HOLDS(AHZ_FRAME_SHORTEST == 6 + 6 + 2 && AHZ_FRAME_LONGEST == 1522 && AHZ_CTAG_O
 HOLDS(AHZ_TYPE_CTAG == 0x8100 && AHZ_TYPE_RTAG == 0xF1C1 && AHZ_VLAN_LAST == 4094);
 HOLDS(AHZ_H_DESTINATION == 0 && AHZ_H_SOURCE == 1 && AHZ_H_TAGGED == 2 && AHZ_H_VLAN == 3 && AHZ_H_NUMBERED == 4);
 HOLDS(AHZ_H_NUMBER == 5 && AHZ_H_TYPE == 6 && AHZ_H_PAYLOAD == 7 && AHZ_H_WORDS == 8);
+
+/* A frame with its check. */
+HOLDS(AHZ_FCS_OCTETS == 4 && AHZ_FCS_SHORTEST == 14 + 4 && AHZ_FCS_LONGEST == 1522 + 4);
 
 /* Stream tables. */
 HOLDS(AHZ_KIND_DESTINATION == 1 && AHZ_KIND_SOURCE == 2);
@@ -58,7 +61,8 @@ HOLDS(AHZ_CARD_END == 0x00 && AHZ_CARD_FLUSH_ORDER == 0x10 && AHZ_CARD_RAW_CODE 
 HOLDS(AHZ_FLUSH_ORDER_OCTETS == 1 + 4 && AHZ_RAW_CODE_OCTETS == 1 + 2 && AHZ_MILLIVOLTS_OCTETS == 1 + 2);
 HOLDS(AHZ_EVENT_NUMBERED == 1 && AHZ_EVENT_TAGLESS == 2 && AHZ_EVENT_TICK == 3 && AHZ_EVENT_RESET == 4);
 HOLDS(AHZ_EVENT_LATENT_RESET == 5 && AHZ_EVENT_LATENT_TEST == 6 && AHZ_EVENT_SETUP == 0x0F);
-HOLDS(AHZ_TAPE_LONGEST == 4096 && AHZ_TAPE_OUTPUT == 13 * 4096 + 265 && AHZ_TAPE_STACK == 55296 && AHZ_STACK == 512);
+HOLDS(AHZ_TAPE_LONGEST == 4096 && AHZ_TAPE_OUTPUT == 13 * 4096 + 265);
+HOLDS(AHZ_TAPE_STACK == 55296 && AHZ_FCS_STACK == 1536 && AHZ_STACK == 512);
 
 /* A unit is its number, and a state and a header are their words, so that each can be stored. */
 HOLDS(sizeof(ahz_milliseconds_t) == 4 && sizeof(ahz_rate_t) == 2 && sizeof(ahz_ticks_t) == 8 && sizeof(ahz_volts_t) == 8);

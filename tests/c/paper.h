@@ -1,6 +1,6 @@
-/* Document 01 as small functions, with document 02's CR 2, the use, CR 4, the longer history, and CR 7, holes before the first packet. They
- * say what is expected of the layer, are written from the papers, and are slow and plain: no bit is counted at once, and marks are an
- * array. None of them calls the layer. */
+/* Document 01 as small functions, with document 02's CR 2, the use, CR 4, the longer history, CR 6, the frame check sequence, and CR 7,
+ * holes before the first packet. They say what is expected of the layer, are written from the papers, and are slow and plain: bits are
+ * counted and divided one by one, and marks are an array. None of them calls the layer. */
 #ifndef PAPER_H
 #define PAPER_H
 
@@ -53,6 +53,43 @@ static inline PaperFrame paper_read(const uint8_t *frame, size_t octets) {
     got.words[6] = big_endian(frame + at, 2);
     got.words[7] = at + 2;
     return got;
+}
+
+/* ---- The frame check sequence ---- */
+
+/* IEEE 802.3, 3.2.9: the octets as a polynomial, the low bit of each octet first, and 32 zeros behind them; the first 32 bits complemented;
+ * the remainder of a division by 04C11DB7 and x^32, complemented. Of this the coefficient of x^31 is the first bit, so the low bit of the
+ * check's low octet. */
+static inline uint32_t paper_crc32(const uint8_t *octets, size_t count) {
+    const size_t bits = 8 * count;
+    uint32_t remainder = 0, crc = 0;
+    size_t i;
+    for (i = 0; i < bits + 32; i++) {
+        const uint32_t of_x32 = remainder >> 31;
+        uint32_t bit = i < bits ? octets[i / 8] >> i % 8 & 1u : 0;
+        if (i < 32) bit ^= 1;
+        remainder = remainder << 1 | bit;
+        if (of_x32 == 1) remainder ^= 0x04C11DB7;
+    }
+    remainder = ~remainder;
+    for (i = 0; i < 32; i++) crc |= (remainder >> (31 - i) & 1) << i;
+    return crc;
+}
+
+/* "The check stands low octet first." */
+static inline void paper_fcs(const uint8_t *octets, size_t count, uint8_t *check) {
+    const uint32_t crc = paper_crc32(octets, count);
+    size_t i;
+    for (i = 0; i < 4; i++) check[i] = (uint8_t)(crc >> 8 * i);
+}
+
+/* "A mismatch is refusal 28, a frame under 18 octets with its check is 1, above 1,526 is 2." */
+static inline uint8_t paper_check_fcs(const uint8_t *frame, size_t octets) {
+    uint8_t check[4];
+    if (octets < 18) return 1;
+    if (octets > 1526) return 2;
+    paper_fcs(frame, octets - 4, check);
+    return memcmp(frame + octets - 4, check, 4) == 0 ? 0 : 28;
 }
 
 /* ---- Stream tables ---- */

@@ -48,6 +48,10 @@ static const struct {
 } frames[] = {{plain, 0}, {plain, sizeof plain}, {tagged, 17}, {tagged, sizeof tagged}, {numbered, sizeof numbered}, {both, 23},
               {both, sizeof both}};
 enum { FRAMES = sizeof frames / sizeof frames[0] };
+static const uint8_t checked[] = {ADDRESSES, 0x88, 0xB5, 0xAA, 0xBB, 0xCC, 0x34, 0x86, 0x4D, 0x10}; /* plain, with its check */
+static const uint8_t longest[AHZ_FCS_LONGEST + 1] = {ADDRESSES, 0x88, 0xB5};
+static const size_t lengths[] = {0, 1, 13, 14, 17, 18, 60, AHZ_FRAME_LONGEST, AHZ_FRAME_LONGEST + 1, AHZ_FCS_LONGEST, AHZ_FCS_LONGEST + 1};
+enum { LENGTHS = sizeof lengths / sizeof lengths[0] };
 static const uint8_t table[] = {2, 0x02, 0, 0, 0, 0, 0x06, 1, 0, 5, 0, 8, 1, 0x02, 0, 0, 0, 0, 0x07, 3, 0, 0, 0, 7};
 static const uint8_t payload[] = {0x10, 0, 0, 0, 1, 0x11, 0, 10, 0x12, 0x0F, 0xA0, 0x00, 0x13};
 static const uint8_t tape[] = {0x0F, 0, 0, 0, 0, 4, 0, 0, 0, 100, 0, 100, 2, 0, 0, 0, 1, 1, 0, 10, 1, 0, 10, 2, 3, 1, 0, 20, 4, 5, 6};
@@ -77,6 +81,22 @@ static void insertion(void) {
 }
 static void removal(void) {
     for (i = 0; i < FRAMES; i++) answer = ahz_remove(frames[i].octets, frames[i].count, out, sizeof out, &length);
+}
+static void sum(void) {
+    for (i = 0; i < LENGTHS; i++) answer = ahz_crc32(out, lengths[i]);
+    answer = ahz_crc32(out, sizeof out);
+}
+static void check(void) {
+    for (i = 0; i <= sizeof checked; i++) answer = ahz_check_fcs(checked, i);
+    for (i = 0; i < LENGTHS; i++) answer = ahz_check_fcs(out, lengths[i]);
+}
+static void check_off(void) {
+    for (i = 0; i <= sizeof checked; i++) answer = ahz_without_fcs(checked, i);
+    for (i = 0; i < LENGTHS; i++) answer = ahz_without_fcs(out, lengths[i]);
+}
+static void check_on(void) {
+    for (i = 0; i < LENGTHS; i++) answer = ahz_append_fcs(longest, lengths[i], out, sizeof out, &length);
+    answer = ahz_append_fcs(longest, AHZ_FRAME_LONGEST, out, AHZ_FRAME_LONGEST, &length);
 }
 static void table_check(void) {
     for (i = 0; i <= sizeof table; i++) answer = ahz_check_table(table, i);
@@ -156,7 +176,9 @@ int main(void) {
     } calls[] = {
         {"ahz_version", version, AHZ_STACK},         {"ahz_read", reading, AHZ_STACK},
         {"ahz_payload", part, AHZ_STACK},            {"ahz_insert", insertion, AHZ_STACK},
-        {"ahz_remove", removal, AHZ_STACK},          {"ahz_check_table", table_check, AHZ_STACK},
+        {"ahz_remove", removal, AHZ_STACK},          {"ahz_crc32", sum, AHZ_FCS_STACK},
+        {"ahz_check_fcs", check, AHZ_FCS_STACK},     {"ahz_without_fcs", check_off, AHZ_FCS_STACK},
+        {"ahz_append_fcs", check_on, AHZ_FCS_STACK}, {"ahz_check_table", table_check, AHZ_STACK},
         {"ahz_lookup", lookup, AHZ_STACK},           {"ahz_generator", generator, AHZ_STACK},
         {"ahz_generate", generation, AHZ_STACK},     {"ahz_generator_reset", generator_reset, AHZ_STACK},
         {"ahz_ticks", ticks, AHZ_STACK},             {"ahz_check_setup_v2", setup_check, AHZ_STACK},

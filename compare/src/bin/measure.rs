@@ -43,6 +43,21 @@ mod called {
     }
 
     #[inline(never)]
+    pub fn crc32(octets: &[u8]) -> u32 {
+        plain::fcs::crc32(octets)
+    }
+
+    #[inline(never)]
+    pub fn check_fcs(frame: &[u8]) -> Result<(), u8> {
+        plain::fcs::check(frame)
+    }
+
+    #[inline(never)]
+    pub fn append_fcs(frame: &[u8], out: &mut [u8]) -> Result<usize, u8> {
+        plain::fcs::append(frame, out)
+    }
+
+    #[inline(never)]
     pub fn check_table(table: &[u8]) -> Result<(), u8> {
         plain::streams::check_table(table)
     }
@@ -244,6 +259,38 @@ fn frames(figures: &mut Vec<Figure>) {
             },
             |times| {
                 repeat(times, || called::remove(black_box(tagged), black_box(&mut other.0[..])))
+            },
+        ));
+    }
+}
+
+/// The shortest frame, and those that are the shortest and the longest on a wire once the check has
+/// added its four octets.
+fn checks(figures: &mut Vec<Figure>) {
+    for octets in [14, 60, 1_514] {
+        let frame = frame(octets, 7, None, false);
+        let frame = &frame[..];
+        let (mut out, mut other) = (Lined([0; 1_526]), Lined([0; 1_526]));
+        let checked = [frame, &plain::fcs::crc32(frame).to_le_bytes()].concat();
+        let checked = &checked[..];
+        assert_eq!(ours::fcs::check(checked), Ok(()));
+        figures.push(both(
+            format!("crc32, {octets} octets"),
+            |times| repeat(times, || ours::fcs::crc32(black_box(frame))),
+            |times| repeat(times, || called::crc32(black_box(frame))),
+        ));
+        figures.push(both(
+            format!("fcs check, {} octets", checked.len()),
+            |times| repeat(times, || ours::fcs::check(black_box(checked))),
+            |times| repeat(times, || called::check_fcs(black_box(checked))),
+        ));
+        figures.push(both(
+            format!("fcs append, {octets} octets"),
+            |times| {
+                repeat(times, || ours::fcs::append(black_box(frame), black_box(&mut out.0[..])))
+            },
+            |times| {
+                repeat(times, || called::append_fcs(black_box(frame), black_box(&mut other.0[..])))
             },
         ));
     }
@@ -474,6 +521,7 @@ fn receive(entries: usize) -> Figure {
 fn calls() -> Vec<Figure> {
     let mut figures = Vec::new();
     frames(&mut figures);
+    checks(&mut figures);
     lookups(&mut figures);
     steps(&mut figures);
     steps_of_the_longest(&mut figures);

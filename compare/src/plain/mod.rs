@@ -1,4 +1,5 @@
-//! The link layer in plain Rust, one module for each chapter of document 01.
+//! The link layer in plain Rust, one module for each chapter of document 01, and `fcs` for CR 6 of
+//! document 02.
 //!
 //! A refusal is the paper's number ("When the layer says no"), so every call that can refuse
 //! answers `Result<_, u8>`.
@@ -6,6 +7,7 @@
 #![forbid(unsafe_code)]
 
 pub mod cards;
+pub mod fcs;
 pub mod frame;
 pub mod recovery;
 pub mod streams;

@@ -1,4 +1,4 @@
--- Refusals in their order ("When the layer says no"): a list of checks, each with the number that document 01 gives it; the first that
+-- Refusals in their order ("When the layer says no"): a list of checks, each with the number that the papers give it; the first that
 -- holds decides. "Each is given only then. It returns the number alone". Assumes nothing.
 use Prim.Native.Nat.{ℕ}
 use mathlib.Core.Bool.{Bool, cond}

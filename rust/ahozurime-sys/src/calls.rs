@@ -35,6 +35,28 @@ extern "C" {
         length: *mut usize,
     ) -> u8;
 
+    /// The CRC-32 of IEEE 802.3 over so many octets; over none it is 0. Refuses nothing.
+    pub fn ahz_crc32(data: *const u8, data_octets: usize) -> u32;
+
+    /// Checks a frame with its check, which is its last four octets, low octet first. Refuses 1 under
+    /// [`AHZ_FCS_SHORTEST`](crate::AHZ_FCS_SHORTEST), 2 over
+    /// [`AHZ_FCS_LONGEST`](crate::AHZ_FCS_LONGEST), 28.
+    pub fn ahz_check_fcs(frame: *const u8, frame_octets: usize) -> u8;
+
+    /// How many octets the frame has without its check: the first ones of what is lent. 0 where
+    /// [`ahz_check_fcs`] refuses it.
+    pub fn ahz_without_fcs(frame: *const u8, frame_octets: usize) -> usize;
+
+    /// Writes the frame and its check to `out`, and the result's length to `length`; later octets
+    /// stay. Refuses 1, 2 by the frame's length alone; 8.
+    pub fn ahz_append_fcs(
+        frame: *const u8,
+        frame_octets: usize,
+        out: *mut u8,
+        out_octets: usize,
+        length: *mut usize,
+    ) -> u8;
+
     /// Checks a table. Refuses, entry by entry, 13, 10, 11, 12.
     pub fn ahz_check_table(table: *const u8, table_octets: usize) -> u8;
 

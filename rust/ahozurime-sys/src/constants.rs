@@ -3,7 +3,7 @@
 /// Goes up where a program written for an older header could go wrong.
 pub const AHZ_VERSION_MAJOR: u32 = 4;
 /// Goes up where something is only added.
-pub const AHZ_VERSION_MINOR: u32 = 0;
+pub const AHZ_VERSION_MINOR: u32 = 1;
 /// The version that this package is written for; [`ahz_version`](crate::ahz_version) answers that of
 /// the archive.
 pub const AHZ_VERSION: u32 = AHZ_VERSION_MAJOR * 65_536 + AHZ_VERSION_MINOR;
@@ -12,14 +12,18 @@ pub const AHZ_VERSION: u32 = AHZ_VERSION_MAJOR * 65_536 + AHZ_VERSION_MINOR;
 
 /// Octets of stack that are enough for [`ahz_tape_v3`](crate::ahz_tape_v3).
 pub const AHZ_TAPE_STACK: usize = 55_296;
+/// Octets of stack that are enough for [`ahz_crc32`](crate::ahz_crc32),
+/// [`ahz_check_fcs`](crate::ahz_check_fcs), [`ahz_without_fcs`](crate::ahz_without_fcs) and
+/// [`ahz_append_fcs`](crate::ahz_append_fcs).
+pub const AHZ_FCS_STACK: usize = 1_536;
 /// Octets of stack that are enough for every other call.
 pub const AHZ_STACK: usize = 512;
 
 // ---- The refusals ----
 
-/// A frame under 14 octets.
+/// A frame under 14 octets, or under 18 with its check.
 pub const AHZ_R_FRAME_SHORT: u8 = 1;
-/// A frame over 1,522 octets.
+/// A frame over 1,522 octets, or over 1,526 with its check.
 pub const AHZ_R_FRAME_LONG: u8 = 2;
 /// The octets end before the type after a tag.
 pub const AHZ_R_TAG_CUT: u8 = 3;
@@ -63,6 +67,8 @@ pub const AHZ_R_CARD_CUT: u8 = 21;
 pub const AHZ_R_CALIBRATION: u8 = 22;
 /// Setup: taken flag or use not 0 or 1.
 pub const AHZ_R_TAKEN_OR_USE: u8 = 27;
+/// The frame check sequence does not match the octets before it.
+pub const AHZ_R_FCS: u8 = 28;
 
 // ---- The faults of a tape, which stand in its output and are never an answer ----
 
@@ -149,6 +155,15 @@ pub const AHZ_H_TYPE: usize = 6;
 pub const AHZ_H_PAYLOAD: usize = 7;
 /// How many words a header has.
 pub const AHZ_H_WORDS: usize = 8;
+
+// ---- The frame check sequence ----
+
+/// Octets of the check.
+pub const AHZ_FCS_OCTETS: usize = 4;
+/// Octets of the shortest frame with its check.
+pub const AHZ_FCS_SHORTEST: usize = 18;
+/// Octets of the longest frame with its check.
+pub const AHZ_FCS_LONGEST: usize = 1_526;
 
 // ---- Stream tables ----
 

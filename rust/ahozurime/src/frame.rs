@@ -1,5 +1,5 @@
-//! Frames of 14 to 1,522 octets without frame check sequence: addresses, an optional C-TAG, an
-//! optional R-TAG, a type and the payload.
+//! Frames of 14 to 1,522 octets: addresses, an optional C-TAG, an optional R-TAG, a type and the
+//! payload, without frame check sequence. Where it is left on, [`fcs`](crate::fcs) takes it off.
 //!
 //! ```
 //! use ahozurime::{frame, Refusal};

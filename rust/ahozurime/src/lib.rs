@@ -8,6 +8,7 @@
 //! | module | what it does |
 //! |---|---|
 //! | [`frame`] | a frame read; its payload; an R-TAG put in and taken off |
+//! | [`fcs`] | the frame check sequence checked, taken off and appended |
 //! | [`streams`] | a stream table checked; a frame's stream looked up |
 //! | [`recovery`] | numbers generated; a recovery state and its steps |
 //! | [`cards`] | the charge cards of a payload, and their volts |
@@ -106,6 +107,7 @@
 #![deny(missing_docs, unsafe_code)]
 
 pub mod cards;
+pub mod fcs;
 pub mod frame;
 #[allow(unsafe_code)]
 mod raw;
@@ -120,5 +122,5 @@ pub use refusal::Refusal;
 pub use units::{Blocks, Milliseconds, Millivolts, RawCode, Ticks, TicksPerSecond, Volts};
 pub use version::{version, Version};
 
-/// Octets of stack that are enough for the archive in every call but [`tape::run`].
+/// Octets of stack that are enough for the archive in every call but [`tape::run`] and those of [`fcs`].
 pub const STACK: usize = ahozurime_sys::AHZ_STACK;

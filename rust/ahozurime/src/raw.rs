@@ -42,6 +42,31 @@ pub fn remove(frame: &[u8], out: &mut [u8], length: &mut usize) -> u8 {
 }
 
 #[inline]
+pub fn crc32(data: &[u8]) -> u32 {
+    // Safety: one slice with its length.
+    unsafe { sys::ahz_crc32(data.as_ptr(), data.len()) }
+}
+
+#[inline]
+pub fn check_fcs(frame: &[u8]) -> u8 {
+    // Safety: one slice with its length.
+    unsafe { sys::ahz_check_fcs(frame.as_ptr(), frame.len()) }
+}
+
+#[inline]
+pub fn without_fcs(frame: &[u8]) -> usize {
+    // Safety: one slice with its length.
+    unsafe { sys::ahz_without_fcs(frame.as_ptr(), frame.len()) }
+}
+
+#[inline]
+pub fn append_fcs(frame: &[u8], out: &mut [u8], length: &mut usize) -> u8 {
+    let (at, octets) = (out.as_mut_ptr(), out.len());
+    // Safety: two slices, each with its length, and one number; the last two are borrowed alone.
+    unsafe { sys::ahz_append_fcs(frame.as_ptr(), frame.len(), at, octets, length) }
+}
+
+#[inline]
 pub fn check_table(table: &[u8]) -> u8 {
     // Safety: one slice with its length.
     unsafe { sys::ahz_check_table(table.as_ptr(), table.len()) }

@@ -8,7 +8,8 @@ use core::fmt;
 /// let refusal = frame::read(&[0; 13]).unwrap_err();
 /// assert_eq!(refusal, Refusal::FRAME_SHORT);
 /// assert_eq!(refusal.number(), 1);
-/// assert_eq!(refusal.to_string(), "refusal 1: frame under 14 octets");
+/// let said = "refusal 1: frame under 14 octets, or under 18 with its check";
+/// assert_eq!(refusal.to_string(), said);
 /// ```
 #[derive(Clone, Copy, PartialEq, Eq, PartialOrd, Ord, Hash)]
 pub struct Refusal(u8);
@@ -36,8 +37,8 @@ macro_rules! refusals {
 }
 
 refusals! {
-    1 FRAME_SHORT "frame under 14 octets"
-    2 FRAME_LONG "frame over 1,522 octets"
+    1 FRAME_SHORT "frame under 14 octets, or under 18 with its check"
+    2 FRAME_LONG "frame over 1,522 octets, or over 1,526 with its check"
     3 TAG_CUT "octets end before the type after a tag"
     4 TAG_TWICE "8100 after a C-TAG, or 8100 or F1C1 after an R-TAG"
     5 VLAN "VLAN id 4,095"
@@ -63,6 +64,7 @@ refusals! {
     25 TAPE_SETUP "setup missing or repeated on a tape"
     26 TAPE_LONG "tape over 4,096 octets"
     27 TAKEN_OR_USE "taken flag or use not 0 or 1"
+    28 FCS "frame check sequence does not match"
 }
 
 impl Refusal {

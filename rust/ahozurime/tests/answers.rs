@@ -2,7 +2,7 @@
 
 use ahozurime::cards::{self, Calibration, Card, Reading};
 use ahozurime::recovery::{Generator, Rule, Setup, State, Usage, Verdict, MARK_WORDS, WORDS};
-use ahozurime::{frame, streams, tape, version, Version, STACK};
+use ahozurime::{fcs, frame, streams, tape, version, Version, STACK};
 use ahozurime::{Milliseconds, Millivolts, RawCode, Refusal, TicksPerSecond, Volts};
 use std::collections::BTreeMap;
 
@@ -38,8 +38,9 @@ fn refusals_have_the_numbers_of_the_paper() {
         Refusal::TAPE_SETUP,
         Refusal::TAPE_LONG,
         Refusal::TAKEN_OR_USE,
+        Refusal::FCS,
     ];
-    assert_eq!(in_order.map(Refusal::number).to_vec(), (1..=27).collect::<Vec<u8>>());
+    assert_eq!(in_order.map(Refusal::number).to_vec(), (1..=28).collect::<Vec<u8>>());
 }
 
 /// The sentences of the header by their numbers, and the one for every other number.
@@ -62,7 +63,7 @@ fn sentences_of_the_header() -> (BTreeMap<u8, &'static str>, &'static str) {
 #[test]
 fn sentences_are_those_of_the_header() {
     let (sentences, none) = sentences_of_the_header();
-    assert_eq!(sentences.keys().copied().collect::<Vec<_>>(), (1..=27).collect::<Vec<_>>());
+    assert_eq!(sentences.keys().copied().collect::<Vec<_>>(), (1..=28).collect::<Vec<_>>());
     for number in 0..=255 {
         let refusal = Refusal::from_number(number);
         assert_eq!(refusal.number(), number);
@@ -78,9 +79,9 @@ fn a_refusal_is_shown_with_its_sentence() {
 }
 
 #[test]
-fn the_version_is_four_point_zero() {
-    assert_eq!(version(), Version { major: 4, minor: 0 });
-    assert_eq!(Version::OF_THIS_PACKAGE, Version { major: 4, minor: 0 });
+fn the_version_is_four_point_one() {
+    assert_eq!(version(), Version { major: 4, minor: 1 });
+    assert_eq!(Version::OF_THIS_PACKAGE, Version { major: 4, minor: 1 });
 }
 
 #[test]
@@ -98,6 +99,7 @@ fn a_version_fits_the_same_major_and_a_minor_up_to_its_own() {
 fn constants_are_those_of_the_paper() {
     assert_eq!((frame::SHORTEST, frame::LONGEST), (14, 1_522));
     assert_eq!((frame::RTAG_OCTETS, frame::VLAN_LAST), (6, 4_094));
+    assert_eq!((fcs::OCTETS, fcs::SHORTEST, fcs::LONGEST), (4, 18, 1_526));
     assert_eq!((streams::KIND_DESTINATION, streams::KIND_SOURCE), (1, 2));
     let choices = (streams::CHOICE_TAGGED, streams::CHOICE_PRIORITY, streams::CHOICE_ALL);
     assert_eq!(choices, (1, 2, 3));
@@ -118,7 +120,52 @@ fn constants_are_those_of_the_paper() {
     assert_eq!((tape::KIND_TICK, tape::KIND_RESET), (0x03, 0x04));
     assert_eq!((tape::KIND_LATENT_RESET, tape::KIND_LATENT_TEST), (0x05, 0x06));
     assert_eq!((tape::KIND_SETUP, tape::LONGEST), (0x0F, 4_096));
-    assert_eq!((STACK, tape::STACK, tape::OUTPUT), (512, 55_296, 53_513));
+    assert_eq!((STACK, fcs::STACK, tape::STACK), (512, 1_536, 55_296));
+    assert_eq!(tape::OUTPUT, 53_513);
+}
+
+#[test]
+fn a_frame_goes_out_with_its_check_and_comes_back_without() {
+    let octets: Vec<u8> = (0..=frame::LONGEST).map(|i| (7 * i + i / 256) as u8).collect();
+    for length in [14, 15, 60, 1_521, 1_522] {
+        let bare = &octets[..length];
+        let mut out = [0xA5; fcs::LONGEST + 1];
+        assert_eq!(fcs::append(bare, &mut out), Ok(length + 4));
+        let (sent, later) = out.split_at(length + 4);
+        assert_eq!(sent[length..], fcs::crc32(bare).to_le_bytes());
+        assert_eq!((fcs::check(sent), fcs::without(sent)), (Ok(()), bare));
+        assert!(later.iter().all(|&octet| octet == 0xA5));
+    }
+}
+
+#[test]
+fn a_frame_with_its_check_is_refused_by_its_length_and_then_by_its_check() {
+    for (length, refusal) in [
+        (0, Refusal::FRAME_SHORT),
+        (17, Refusal::FRAME_SHORT),
+        (18, Refusal::FCS),
+        (1_526, Refusal::FCS),
+        (1_527, Refusal::FRAME_LONG),
+    ] {
+        let zeros = vec![0; length];
+        assert_eq!((fcs::check(&zeros), fcs::without(&zeros)), (Err(refusal), &[][..]), "{length}");
+    }
+}
+
+#[test]
+fn a_check_is_not_appended_to_a_wrong_length_nor_without_room() {
+    for (length, room, refusal) in [
+        (0, 0, Refusal::FRAME_SHORT),
+        (13, 1_600, Refusal::FRAME_SHORT),
+        (1_523, 0, Refusal::FRAME_LONG),
+        (1_523, 1_600, Refusal::FRAME_LONG),
+        (14, 17, Refusal::OUTPUT_SHORT),
+        (1_522, 1_525, Refusal::OUTPUT_SHORT),
+    ] {
+        let mut out = vec![0xA5; room];
+        assert_eq!(fcs::append(&vec![0; length], &mut out), Err(refusal), "{length}, {room}");
+        assert!(out.iter().all(|&octet| octet == 0xA5));
+    }
 }
 
 #[test]

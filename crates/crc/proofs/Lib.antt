@@ -1,0 +1,11 @@
+pub mod Rows
+pub mod Sums
+pub mod Steps
+pub mod Numbers
+pub mod LowFirst
+pub mod Sliced
+pub mod Register
+pub mod OfTable
+pub mod Examples
+pub mod Damage
+pub mod Unique

@@ -1,0 +1,4 @@
+pub mod Same
+pub mod Decided
+pub mod Trips
+pub mod Unique

@@ -1,0 +1,4 @@
+pub mod Sequence
+pub mod Part
+pub mod Writer
+pub mod RoundTrip
