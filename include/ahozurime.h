@@ -1,7 +1,7 @@
 /* Ahozurime: the proved link layer, for C (C99 and later) and C++ (C++11 and later).
  *
  * Link libahozurime.a, which tools/archive makes for x86_64 and for aarch64, and which `make install` puts in place with this header. The
- * refusals' numbers are those of the scope paper, "When the layer says no".
+ * refusals' numbers are those of the papers: of the scope, "When the layer says no", and of the requests since.
  *
  * Answers. Every call that can refuse answers one number:
  *   0            done
@@ -20,8 +20,8 @@
  *
  * Between calls. The archive has no variables: nothing is kept after a call returns, no call allocates, and none calls back. So calls may
  * run in several threads at once, and in an interrupt that breaks into another call, on memory of their own: what one of them writes
- * must not be lent to another meanwhile. Beside its code the archive has constants, such as the words of ahz_crc32's tables, which are
- * only read.
+ * must not be lent to another meanwhile. Beside its code the archive has constants, which are only read: the words that ahz_crc32 lays on
+ * the stack as its tables are among them.
  *
  * From outside the archive needs memcpy and memset, and nothing else. Only ahz_tape_v3 uses them.
  *
@@ -235,7 +235,8 @@ AHZ_USE_ANSWER uint8_t ahz_check_fcs(const uint8_t *frame, size_t frame_octets);
 AHZ_USE_ANSWER size_t ahz_without_fcs(const uint8_t *frame, size_t frame_octets);
 
 /* Writes the frame and its check to out, and the result's length, frame_octets + AHZ_FCS_OCTETS, to length. Later octets of out stay.
- * Answers 0. Refusals, in this order: 1 the frame is under 14 octets; 2 over 1,522; 8 out is shorter than the result. */
+ * Answers 0. It does not pad: where a wire wants 60 octets before the check, pad the frame first.
+ * Refusals, in this order: 1 the frame is under 14 octets; 2 over 1,522; 8 out is shorter than the result. */
 AHZ_USE_ANSWER uint8_t ahz_append_fcs(const uint8_t *frame, size_t frame_octets, uint8_t *out, size_t out_octets, size_t *length);
 
 /* ---- Stream tables: entries of 12 octets, kind 1 or 2, address 6, choice 1, VLAN 2, handle 2 ---- */

@@ -127,8 +127,8 @@ fn every_damage_of_one_octet() {
     report("checks with one octet damaged, ours and plain", cases);
 }
 
-/// From the shortest to the longest; of these, 64 alone is a whole number of words.
-const LENGTHS: [usize; 8] = [18, 19, 64, 67, 129, 513, 1_517, 1_526];
+/// From the shortest to the longest: of the octets before the check, each count modulo 8 is among them.
+const LENGTHS: [usize; 9] = [18, 19, 64, 67, 129, 511, 516, 1_517, 1_526];
 
 /// A CRC-32 sees every single bit, of the frame and of its check.
 #[test]

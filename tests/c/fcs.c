@@ -98,7 +98,7 @@ static void flip(size_t bit) {
 
 /* No damage of one bit goes through, nor one of two in the shortest frame; and with the bit set back the frame is good again. */
 static void damage(void) {
-    static const size_t lengths[] = {18, 19, 64, 1526};
+    static const size_t lengths[] = {18, 19, 64, 65, 132, 135, 1525, 1526};
     size_t i, bit, other;
     for (i = 0; i < COUNT(lengths); i++) {
         make(i % 2 == 0 ? ROLLED : TAGS);
@@ -124,8 +124,8 @@ static void damage(void) {
     expect_check(18, AHZ_DONE);
 }
 
-/* Checks that another reading of the standard would write: the high octet first, not complemented, bits the other way round, no octet of
- * the frame complemented, and the sum of the frame and its check. */
+/* Checks that another reading of the standard would write: the high octet first, not complemented, bits the other way round, the first 32
+ * bits not complemented, and the sum of the frame and its check. */
 static void other_checks(void) {
     size_t octets;
     for (octets = 14; octets <= 1522; octets += 58) {

@@ -1,7 +1,7 @@
 //! The link layer in plain Rust, one module for each chapter of document 01, and `fcs` for CR 6 of
 //! document 02.
 //!
-//! A refusal is the paper's number ("When the layer says no"), so every call that can refuse
+//! A refusal is the papers' number ("When the layer says no", and 28), so every call that can refuse
 //! answers `Result<_, u8>`.
 
 #![forbid(unsafe_code)]

@@ -1,4 +1,4 @@
--- The table's rule at any index, and that the slices follow from it. Assumes nothing.
+-- That the slices follow from the table. Assumes nothing.
 use Prim.Native.Nat.{ℕ, zero, suc, _+_, _*_, _/_, _%_, _<_}
 use native.Mathlib.Omega.{arith}
 use mathlib.Core.Path.{_≡_, refl, sym, ap, ap₂, _∙_}
@@ -7,15 +7,12 @@ use mathlib.Core.List.{List, _++_, append-assoc}
 use lib.ListN.{getD, length-append, replicate, length-replicate, replicate-append-replicate}
 use Rattle.crc.specs.Bits.{bitsOf, sent, zeros, _⊕_}
 use Rattle.crc.specs.Division.{divide}
-use Rattle.crc.specs.Tables.{steps, table, slice, left, through, EightSteps, SlicesOfTable}
-use Rattle.crc.proofs.Rows.{by-rule}
+use Rattle.crc.specs.Tables.{steps, table, slice, left, through, SlicesOfTable}
+use Rattle.crc.proofs.Rows.{by-rule, eight-steps}
 use Rattle.crc.proofs.Steps.{divide-add}
 use Rattle.crc.proofs.Numbers.{bits-zero, bits-padded, same-bits}
 use Rattle.crc.proofs.Sliced.{bits-steps, steps-below, steps-above}
 use Rattle.crc.proofs.Register.{steps-over, bits-through, through-below}
-
-pub eight-steps : EightSteps
-eight-steps = by-rule (steps 8) 256
 
 -- octets of zeros
 sent-zeros : (m : ℕ) → sent (replicate m 0) ≡ zeros (8 * m)

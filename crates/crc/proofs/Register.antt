@@ -17,7 +17,7 @@ use Rattle.crc.proofs.Steps.{divide-add, divide-over, length-divide}
 use Rattle.crc.proofs.Numbers.{length-bits, bits-split, bits-padded, bits-xor, bits-number, number-bits, number-below, number-not}
 use Rattle.crc.proofs.Sliced.{bits-steps, steps-below, steps-low}
 use Rattle.crc.proofs.LowFirst.{sent-append, low-one}
-use Rattle.crc.proofs.Rows.{by-rule}
+use Rattle.crc.proofs.Rows.{eight-steps}
 
 -- bits behind bits
 pub left-append : (r m n : List Bool) → left r (m ++ n) ≡ left (left r m) n
@@ -40,7 +40,7 @@ unfolding _⊕_
 steps-over k n m h = rw (length-bits k n) at (divide-over [] (bitsOf k n) m h)
 
 -- so many bits of a word added to the register, as one word
-pub word-steps : (k c x : ℕ) → c < 2 ^ 32 → x < 2 ^ k
+word-steps : (k c x : ℕ) → c < 2 ^ 32 → x < 2 ^ k
     → divide k (bitsOf 32 c ⊕ (bitsOf k x ++ zeros 32)) ≡ divide k (bitsOf k (bitXor c x) ++ zeros 32) ⊕ bitsOf 32 (c / 2 ^ k)
 unfolding _⊕_
 word-steps k c x p q =
@@ -58,7 +58,7 @@ word-steps k c x p q =
     ap (divide k) word ∙ steps-over k (bitXor c x) (bitsOf 32 (c / 2 ^ k)) (omega (arith, length-bits 32 (c / 2 ^ k)))
 
 -- and looked up
-pub word-through : (k c x : ℕ) → c < 2 ^ 32 → x < 2 ^ k
+word-through : (k c x : ℕ) → c < 2 ^ 32 → x < 2 ^ k
     → numberOf (left (bitsOf 32 c) (bitsOf k x)) ≡ bitXor (steps k (bitXor c x)) (c / 2 ^ k)
 unfolding left
 word-through k c x p q =
@@ -75,7 +75,7 @@ unfolding through
 bits-through c o = rw (length-left (bitsOf 32 c) (sent o) (length-bits 32 c)) at (bits-number (left (bitsOf 32 c) (sent o)))
 
 -- octets behind octets
-pub through-append : (c : ℕ) (o p : List ℕ) → through c (o ++ p) ≡ through (through c o) p
+through-append : (c : ℕ) (o p : List ℕ) → through c (o ++ p) ≡ through (through c o) p
 unfolding through
 through-append c o p =
     ap numberOf
@@ -98,7 +98,7 @@ through-none c p =
     ∙ number-bits 32 c ∙ mod-eq-of-lt p
 
 -- so many octets more, as a number
-pub through-more : (n c : ℕ) (o : List ℕ) (at x : ℕ) → x < 2 ^ (8 * n) → Low n o at x
+through-more : (n c : ℕ) (o : List ℕ) (at x : ℕ) → x < 2 ^ (8 * n) → Low n o at x
     → let before = through c (take at o) in
     through c (take (at + n) o) ≡ bitXor (steps (8 * n) (bitXor before x)) (before / 2 ^ (8 * n))
 through-more n c o at x p q =
@@ -118,7 +118,7 @@ pub octet-more : (c : ℕ) (o : List ℕ) (at : ℕ) → at < length o → getD 
 octet-more c o at p q =
     let before = through c (take at o) in
     let word = bitXor before (getD o at 0) in
-    ap (λ (n : ℕ). bitXor n (before / 256)) (by-rule (steps 8) 256 (word % 256) (omega arith) ∙ steps-low 8 word)
+    ap (λ (n : ℕ). bitXor n (before / 256)) (eight-steps (word % 256) (omega arith) ∙ steps-low 8 word)
     ∙ sym (through-more 1 c o at (getD o at 0) q (low-one o at p))
 
 -- four octets or more, by all their steps: no bit of the register before them is left

@@ -59,7 +59,7 @@ steps-above j k b =
     ∙ ap (divide k) (divide-zeros j (bitsOf k b ++ zeros 32)))
 
 -- the low bits by themselves, and the others by themselves
-pub steps-parts : (j k n : ℕ) → bitsOf 32 (steps (j + k) n) ≡ bitsOf 32 (steps (j + k) (n % 2 ^ j)) ⊕ bitsOf 32 (steps k (n / 2 ^ j))
+steps-parts : (j k n : ℕ) → bitsOf 32 (steps (j + k) n) ≡ bitsOf 32 (steps (j + k) (n % 2 ^ j)) ⊕ bitsOf 32 (steps k (n / 2 ^ j))
 steps-parts j k n =
     let high = n / 2 ^ j * 2 ^ j in
     let low = n % 2 ^ j in

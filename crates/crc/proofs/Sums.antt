@@ -20,7 +20,7 @@ differ-assoc true true false = refl
 differ-assoc true false c = refl
 differ-assoc false b c = refl
 
-pub sum-nil : (l : List Bool) → l ⊕ [] ≡ l
+sum-nil : (l : List Bool) → l ⊕ [] ≡ l
 unfolding _⊕_
 sum-nil [] = refl
 sum-nil (a ∷ l) = refl

@@ -1,5 +1,6 @@
--- The CRC-32 of IEEE 802.3 (clause 3.2.9; CR 6 of document 02): "the bit-by-bit division". A row of bits is a polynomial modulo 2, the bit
--- that is sent first its highest power. Assumes nothing.
+-- The CRC-32 of IEEE 802.3 (CR 6 of document 02): "the bit-by-bit division". Clause 3.2.9 has it in five steps: a) the first 32 bits are
+-- complemented; b) all bits are the coefficients of a polynomial M(x) modulo 2, the one that is sent first that of the highest power; c)
+-- M(x) times x^32 is divided by G(x); d) what remains is 32 bits; e) these are complemented. Assumes nothing.
 use Prim.Native.Nat.{ℕ, zero, suc, _+_, _^_}
 use mathlib.Core.Path.{_≡_}
 use mathlib.Core.Bool.{Bool, cond, not}
@@ -13,18 +14,18 @@ generator =
     reverse
     (bitsOf 32 (2 ^ 26 + 2 ^ 23 + 2 ^ 22 + 2 ^ 16 + 2 ^ 12 + 2 ^ 11 + 2 ^ 10 + 2 ^ 8 + 2 ^ 7 + 2 ^ 5 + 2 ^ 4 + 2 ^ 2 + 2 ^ 1 + 2 ^ 0))
 
--- so many steps of a long division by G(x): each drops the highest power, and where its bit is 1 takes G(x) away below it
+-- c) so many steps of a long division by G(x): each drops the highest power, and where its bit is 1 takes G(x) away below it
 unfoldable pub divide : ℕ → List Bool → List Bool
 divide zero m = m
 divide (suc n) [] = []
 divide (suc n) (b ∷ m) = divide n (cond b (generator ⊕ m) m)
 
--- a row times x^32, its first 32 bits complemented, divided by G(x): what remains, 32 bits. Where the row is shorter than that, the first
--- of the zeros behind it are complemented too
+-- a) to d): a row times x^32, its first 32 bits complemented, divided by G(x), and what remains. The 32 zeros are there before a), which is
+-- the same for every frame: of fewer than 32 bits, zeros are among the first 32
 unfoldable pub remainder : List Bool → List Bool
 remainder m = divide (length m) (ones 32 ⊕ (m ++ zeros 32))
 
--- the remainder complemented is the check: a number whose low bit is sent first
+-- e) the remainder complemented is the check: a number whose low bit is sent first
 unfoldable pub crc : List ℕ → ℕ
 crc o = numberOf (map not (remainder (sent o)))
 

@@ -1,5 +1,6 @@
 -- The division by octets, and by several of them at once, "from a constant table" (CR 6 of document 02): what the words of the tables are,
--- what the functions on the way promise, and two claims, which proofs/OfTable proves. Assumes nothing.
+-- what the functions on the way promise, and two claims, which proofs/Rows and proofs/OfTable prove. What `of` promises is in Division;
+-- nothing here has to be believed for it. Assumes nothing.
 use Prim.Native.Nat.{ℕ, zero, suc, _+_, _*_, _/_, _%_, _<_}
 use mathlib.Core.Path.{_≡_}
 use mathlib.Core.Bool.{Bool}
@@ -8,7 +9,7 @@ use lib.ListN.{length, take, drop, getD, replicate}
 use Rattle.crc.specs.Bits.{bitsOf, numberOf, sent, zeros, _⊕_}
 use Rattle.crc.specs.Division.{divide}
 
--- so many division steps of a number of as many bits
+-- k division steps of a number of k bits, with 32 zeros behind it
 unfoldable pub steps : ℕ → ℕ → ℕ
 steps k n = numberOf (divide k (bitsOf k n ++ zeros 32))
 
@@ -17,7 +18,8 @@ unfoldable pub row : (ℕ → ℕ) → ℕ → ℕ → List ℕ
 row rule i zero = []
 row rule i (suc n) = rule i ∷ row rule (suc i) n
 
--- "a constant table of 256 words whose rule, eight division steps for each index, is shown once over the whole table"
+-- "a constant table of 256 words whose rule, eight division steps for each index, is shown once over the whole table": that the code's
+-- words are these is the contract of `eight_steps`, and its proof one computation
 abbrev pub table : List ℕ
 table = row (steps 8) 0 256
 
@@ -25,7 +27,8 @@ table = row (steps 8) 0 256
 abbrev pub EightSteps : Type 0
 EightSteps = (i : ℕ) → i < 256 → getD table i 0 ≡ steps 8 i
 
--- several octets at once: word 16 k + j of the slices is all the steps of half an octet j with k such halves behind it
+-- several octets at once, from a second table, the slices: word 16 k + j is all the steps of half an octet j with k such halves behind it.
+-- That the code's words are these is the contract of `half_steps`
 abbrev pub slice : ℕ → ℕ
 slice i = steps (4 * suc (i / 16)) (i % 16)
 

@@ -7,7 +7,6 @@ ghost use Prim.Native.Nat.{_/_, _%_, _≤_};
 ghost use lib.ListN.{length};
 ghost use Rattle.crc.specs.Tables.{slices, steps, through};
 
-// Word 16 k + j is 4 (k + 1) division steps of j: half an octet with k halves behind it.
 const SLICES: [u32; 256] = [
     0x00000000,
     0x1DB71064,
@@ -267,12 +266,19 @@ const SLICES: [u32; 256] = [
     0xD92012AC,
 ];
 
+// Word 16 k + j is 4 (k + 1) division steps of j: half an octet with k halves behind it.
+fn half_steps() -> [u32; 256]
+    ensures { λ r. ⌜ r ≡ slices ⌝ }
+{
+    SLICES
+}
+
 // What the register becomes by octets whose count four divides: eight at a time, and four where so many are left.
 pub fn by_words(register: u32, octets: &[u8]) -> u32
     requires { ⌜ length (now octets) % 4 ≡ 0 ⌝ }
     ensures { λ r. ⌜ r ≡ through register (now (octets .entry)) ⌝ }
 {
-    let words = SLICES;
+    let words = half_steps();
     let mut past = register;
     let mut i: usize = 0;
     while 8 <= octets.len() - i {

@@ -1,8 +1,7 @@
 // Division by octets.
 ghost use mathlib.Core.Path.{_≡_};
-ghost use Rattle.crc.specs.Tables.{through};
+ghost use Rattle.crc.specs.Tables.{table, through};
 
-// Word i is eight division steps of i.
 const TABLE: [u32; 256] = [
     0x00000000,
     0x77073096,
@@ -262,14 +261,22 @@ const TABLE: [u32; 256] = [
     0x2D02EF8D,
 ];
 
+// Word i is eight division steps of i.
+fn eight_steps() -> [u32; 256]
+    ensures { λ r. ⌜ r ≡ table ⌝ }
+{
+    TABLE
+}
+
 // What the register becomes by octets.
 pub fn by_octets(register: u32, octets: &[u8]) -> u32
     ensures { λ r. ⌜ r ≡ through register (now (octets .entry)) ⌝ }
 {
+    // The table is laid down only where there is an octet for it.
     if octets.len() == 0 {
         return register;
     }
-    let table = TABLE;
+    let table = eight_steps();
     let mut past = register;
     let mut i: usize = 0;
     while i < octets.len() {

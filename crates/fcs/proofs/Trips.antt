@@ -13,7 +13,7 @@ use Rattle.crc.proofs.Numbers.{length-bits, bits-split, bits-low}
 use Rattle.crc.proofs.LowFirst.{sent-append}
 use Rattle.crc.proofs.Register.{bits-crc}
 use Rattle.crc.proofs.Damage.{residue-left, bursts-seen}
-use Rattle.fcs.specs.Sequence.{lowFirst, frameOf, checkOf, same, checks, Checks}
+use Rattle.fcs.specs.Sequence.{lowFirst, frameOf, checkOf, checks, Checks}
 use Rattle.fcs.specs.Writer.{appended}
 use Rattle.fcs.specs.RoundTrip.{AppendThenCheck, CheckThenAppend, AcceptedLeaves, DamageSeen, WrongBitSeen}
 use Rattle.fcs.proofs.Decided.{accepted, accepted-least, accepted-most, accepted-carries, check-matches, check-differs}

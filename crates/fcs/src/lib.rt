@@ -1,6 +1,6 @@
 // The frame check sequence (CR 6 of document 02): a frame with its check behind it is checked, handed back without it, or made.
 //
-// Whatever octets come in, each call answers or refuses by document 02's number, and a refusal leaves the lent output as it was. Tags are
+// Whatever octets come in, each call answers or refuses by the papers' number, and a refusal leaves the lent output as it was. Tags are
 // not read.
 mod low;
 mod part;

@@ -69,7 +69,7 @@ pub fn without(frame: &[u8]) -> &[u8] {
 }
 
 /// Writes the frame and its check to `out` and answers the result's length, [`OCTETS`] more. Later
-/// octets of `out` stay.
+/// octets of `out` stay. It does not pad: where a wire wants 60 octets before the check, pad first.
 ///
 /// # Errors
 ///

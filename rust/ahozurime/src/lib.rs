@@ -98,8 +98,9 @@
 //! The package `ahozurime-sys` links the archive `libahozurime.a` and says where it looks for it. The
 //! archive has no variables: calls may run in several threads, and in an interrupt that breaks into
 //! another call. It needs `memcpy` and `memset` from outside, which Rust brings, on bare metal too. Of
-//! stack the archive takes at most [`STACK`] octets in a call, and in [`tape::run`] at most
-//! [`tape::STACK`]; what `memcpy`, `memset` and this package's own functions take comes on top.
+//! stack the archive takes at most [`STACK`] octets in a call, in those of [`fcs`] [`fcs::STACK`], and
+//! in [`tape::run`] [`tape::STACK`]; what `memcpy`, `memset` and this package's own functions take
+//! comes on top.
 //! [`cards::volts`] assumes that doubles are rounded to nearest and that subnormal numbers are not
 //! taken for zero, as Rust does.
 

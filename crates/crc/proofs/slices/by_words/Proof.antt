@@ -6,9 +6,7 @@ use lib.ListN.{length, take}
 use lib.Seq.{take-all}
 use lib.Bits.{bitXor, xor-lt}
 use borrow.Author.Needs.{needs}
-use Rattle.crc.specs.Bits.{bitsOf, numberOf, _⊕_}
-use Rattle.crc.specs.Division.{generator, divide}
-use Rattle.crc.specs.Tables.{steps, row, slices, through}
+use Rattle.crc.specs.Tables.{steps, slices, through}
 use Rattle.crc.proofs.Register.{through-none, word-more}
 use Rattle.crc.proofs.slices.by_words.Statement.{statement}
 use Rattle.crc.proofs.slices.by_words.Tie as tie
@@ -21,11 +19,9 @@ Inv-loop register octets words past₀ i₀ past i =
 abbrev μ-loop : tie.MeasureT-loop
 μ-loop register octets words past₀ i₀ past i = length octets - i
 
--- the rule of the slices: one test that is computed over all their words
 loop-holds : tie.Need-loop-holds Inv-loop μ-loop
-unfolding bitsOf numberOf _⊕_ generator divide steps row
 loop-holds c =
-    (refl, refl, omega arith, sym (through-none (c .before .args .register) (search needs)), search needs)
+    (c .half-steps .ensures, refl, omega arith, sym (through-none (c .before .before .args .register) (search needs)), search needs)
 
 cast-looked-up : tie.Need-cast-looked-up Inv-loop μ-loop
 cast-looked-up c = omega (arith, c .before .before .loop .inv .4)
@@ -37,7 +33,7 @@ loop-again : tie.Need-loop-again Inv-loop μ-loop
 loop-again c =
     let read = c .before in
     let at-loop = read .before .before .before .loop in
-    let a = read .before .before .before .before .before .args in (
+    let a = read .before .before .before .before .before .before .args in (
       at-loop .inv .0,
       omega arith,
       omega arith,
@@ -63,7 +59,7 @@ returns c =
     let read = c .before in
     let left-loop = read .before .before .before in
     let at-loop = left-loop .before .loop in
-    let a = left-loop .before .before .before .args in
+    let a = left-loop .before .before .before .before .args in
     let o = a .octets .now in
     c .looked-up2 .ensures
     ∙ ap (λ (past : ℕ). steps 32 (bitXor past (read .low32 .result))) (at-loop .inv .3)
@@ -74,7 +70,7 @@ returns c =
 returns-2 : tie.Need-returns-2 Inv-loop μ-loop
 returns-2 c =
     let left-loop = c .before .before in
-    let a = left-loop .before .before .args in
+    let a = left-loop .before .before .before .args in
     left-loop .loop .inv .3 ∙ ap (through (a .register)) (take-all (left-loop .loop .i) (a .octets .now) (omega arith))
 
 pub by-words-spec : {M : Type 1} → statement M
@@ -83,6 +79,7 @@ by-words-spec =
     (tie.spec
     Inv-loop
     μ-loop
+    (λ c κs. search needs)
     loop-holds
     (λ c. search needs)
     cast-looked-up

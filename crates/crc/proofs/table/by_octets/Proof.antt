@@ -1,13 +1,11 @@
 -- `crc::table::by_octets` meets its contract: in each turn one octet goes through the register. Assumes nothing.
 use Prim.Native.Nat.{_-_, _≤_}
 use native.Mathlib.Omega.{arith}
-use mathlib.Core.Path.{_≡_, refl, sym, ap, _∙_}
+use mathlib.Core.Path.{_≡_, sym, ap, _∙_}
 use lib.ListN.{length, take}
 use lib.Seq.{take-all}
 use borrow.Author.Needs.{needs}
-use Rattle.crc.specs.Bits.{bitsOf, numberOf, _⊕_}
-use Rattle.crc.specs.Division.{generator, divide}
-use Rattle.crc.specs.Tables.{steps, row, through}
+use Rattle.crc.specs.Tables.{through}
 use Rattle.crc.specs.Tables as Tables
 use Rattle.crc.proofs.Register.{through-none, nothing-through, octet-more}
 use Rattle.crc.proofs.table.by_octets.Statement.{statement}
@@ -22,30 +20,28 @@ abbrev μ-loop : tie.MeasureT-loop
 μ-loop register octets table past₀ i₀ past i = length octets - i
 
 returns : tie.Need-returns Inv-loop μ-loop
-returns c = let a = c .before .args in nothing-through (a .register) (a .octets .now) (search needs) (c .if1 .taken)
+returns c = let a = c .before .before .args in nothing-through (a .register) (a .octets .now) (search needs) (c .if1 .taken)
 
--- the table's rule: one test that is computed over all its words
 loop-holds : tie.Need-loop-holds Inv-loop μ-loop
-unfolding bitsOf numberOf _⊕_ generator divide steps row
-loop-holds c = (refl, omega arith, sym (through-none (c .before .args .register) (search needs)))
+loop-holds c = (c .eight-steps .ensures, omega arith, sym (through-none (c .before .before .before .args .register) (search needs)))
 
 cast-past : tie.Need-cast-past Inv-loop μ-loop
-cast-past c = let at-loop = c .before .before .loop in omega (arith, c .shared-slice-known .given (at-loop .i))
+cast-past c = let at-loop = c .before .before .loop in omega (arith, c .shared-slice-known2 .given (at-loop .i))
 
 loop-again : tie.Need-loop-again Inv-loop μ-loop
 loop-again c =
     let at-loop = c .before .before .loop in
-    let a = c .before .before .before .before .args in (
+    let a = c .before .before .before .before .before .before .args in (
       at-loop .inv .0,
       omega arith,
       rw (at-loop .inv .0, at-loop .inv .2)
-          (octet-more (a .register) (a .octets .now) (at-loop .i) (omega arith) (c .shared-slice-known .given (at-loop .i) .fits)),
+          (octet-more (a .register) (a .octets .now) (at-loop .i) (omega arith) (c .shared-slice-known2 .given (at-loop .i) .fits)),
     )
 
 returns-2 : tie.Need-returns-2 Inv-loop μ-loop
 returns-2 c =
     let left-loop = c .before in
-    let a = left-loop .before .before .args in
+    let a = left-loop .before .before .before .before .args in
     left-loop .loop .inv .2 ∙ ap (through (a .register)) (take-all (left-loop .loop .i) (a .octets .now) (omega arith))
 
 pub by-octets-spec : {M : Type 1} → statement M
@@ -55,6 +51,7 @@ by-octets-spec =
     Inv-loop
     μ-loop
     returns
+    (λ c κs. search needs)
     loop-holds
     (λ c. search needs)
     cast-past

@@ -1,4 +1,4 @@
--- `crc::sum::of` meets its promise: whole words and the octets behind them. Assumes nothing.
+-- `crc::division::of` meets its promise: whole words and the octets behind them. Assumes nothing.
 use Prim.Native.Nat.{_*_, _/_}
 use native.Mathlib.Omega.{arith}
 use mathlib.Core.Path.{sym}
@@ -7,8 +7,8 @@ use lib.Seq.{length-take-le}
 use borrow.Author.Needs.{needs}
 use Rattle.octets.proofs.Parts.{to-end}
 use Rattle.crc.proofs.Register.{in-two-parts}
-use Rattle.crc.proofs.sum.of.Statement.{statement}
-use Rattle.crc.proofs.sum.of.Tie as tie
+use Rattle.crc.proofs.division.of.Statement.{statement}
+use Rattle.crc.proofs.division.of.Tie as tie
 
 slice-aggregate-by-words : tie.Need-slice-aggregate-by-words
 slice-aggregate-by-words c = sym (length-take-le _ (c .before .before .args .octets .now) (omega arith))

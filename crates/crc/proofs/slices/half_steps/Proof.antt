@@ -1,0 +1,14 @@
+-- `crc::slices::half_steps` meets its contract: one test that is computed over all words. Assumes nothing.
+use mathlib.Core.Path.{refl}
+use Rattle.crc.specs.Bits.{bitsOf, numberOf, _⊕_}
+use Rattle.crc.specs.Division.{generator, divide}
+use Rattle.crc.specs.Tables.{steps, row}
+use Rattle.crc.proofs.slices.half_steps.Statement.{statement}
+use Rattle.crc.proofs.slices.half_steps.Tie as tie
+
+returns : tie.Need-returns
+unfolding bitsOf numberOf _⊕_ generator divide steps row
+returns c = refl
+
+pub half-steps-spec : {M : Type 1} → statement M
+half-steps-spec = tie.close (tie.spec returns)
