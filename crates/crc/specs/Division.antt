@@ -1,6 +1,6 @@
--- The CRC-32 of IEEE 802.3 (CR 6 of document 02): "the bit-by-bit division". Clause 3.2.9 has it in five steps: a) the first 32 bits are
--- complemented; b) all bits are the coefficients of a polynomial M(x) modulo 2, the one that is sent first that of the highest power; c)
--- M(x) times x^32 is divided by G(x); d) what remains is 32 bits; e) these are complemented. Assumes nothing.
+-- The CRC-32 of IEEE 802.3 (CR 6 of document 02): "the bit-by-bit division". Clause 3.2.9 has it in five steps, as they are commonly
+-- known: a) the first 32 bits are complemented; b) all bits are the coefficients of a polynomial M(x) modulo 2, the one that is sent first
+-- that of the highest power; c) M(x) times x^32 is divided by G(x); d) what remains is 32 bits; e) these are complemented. Assumes nothing.
 use Prim.Native.Nat.{ℕ, zero, suc, _+_, _^_}
 use mathlib.Core.Path.{_≡_}
 use mathlib.Core.Bool.{Bool, cond, not}

@@ -19,7 +19,7 @@ row rule i zero = []
 row rule i (suc n) = rule i ∷ row rule (suc i) n
 
 -- "a constant table of 256 words whose rule, eight division steps for each index, is shown once over the whole table": that the code's
--- words are these is the contract of `eight_steps`, and its proof one computation
+-- words are these is the contract of `eight_steps`, and its proof one computed test
 abbrev pub table : List ℕ
 table = row (steps 8) 0 256
 

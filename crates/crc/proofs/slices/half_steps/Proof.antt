@@ -2,13 +2,14 @@
 use mathlib.Core.Path.{refl}
 use Rattle.crc.specs.Bits.{bitsOf, numberOf, _⊕_}
 use Rattle.crc.specs.Division.{generator, divide}
-use Rattle.crc.specs.Tables.{steps, row}
+use Rattle.crc.specs.Tables.{steps, slice}
+use Rattle.crc.proofs.Rows.{fits, fits-row}
 use Rattle.crc.proofs.slices.half_steps.Statement.{statement}
 use Rattle.crc.proofs.slices.half_steps.Tie as tie
 
 returns : tie.Need-returns
-unfolding bitsOf numberOf _⊕_ generator divide steps row
-returns c = refl
+unfolding bitsOf numberOf _⊕_ generator divide steps fits
+returns c = fits-row slice 0 _ refl
 
 pub half-steps-spec : {M : Type 1} → statement M
 half-steps-spec = tie.close (tie.spec returns)
