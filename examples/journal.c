@@ -1,26 +1,30 @@
 /* A charge journal over two paths, from end to end. A head numbers its journal frames, puts the R-TAG in and the check behind them, which
  * these rigs leave on. Path A brings every frame; path B loses one, delays one and repeats one. A second stream brings charge reports, and
- * of these path B brings none. The receiver tries each frame's check and takes it off, looks the stream up, lets each number through once,
- * takes the tag off and walks the cards. Among the frames are one of each stream without a number, one of no stream, one that is cut and
- * one with a bit changed on its way. tools/c compiles and runs this, and compares what it prints with journal.out. */
+ * of these path B brings none. A third is a partner's, whose head speaks PRP: the number stands in a trailer behind the payload. The
+ * receiver tries each frame's check and takes it off, looks the stream up, lets each number through once, takes the tag or trailer off and
+ * walks the cards. Among the frames are one of each stream without a number, one of no stream, one that is cut and one with a bit changed
+ * on its way. tools/c compiles and runs this, and compares what it prints with journal.out. */
 #include <ahozurime.h>
 
 #include <inttypes.h>
 #include <stdio.h>
 #include <string.h>
 
-enum { JOURNAL, REPORTS, STREAMS }; /* the handles, each the place of its stream's state */
-enum { JOURNAL_FRAMES = 5, REPORT_FRAMES = 3 };
+enum { JOURNAL, REPORTS, PARTNER, STREAMS }; /* the handles, each the place of its stream's state */
+enum { JOURNAL_FRAMES = 5, REPORT_FRAMES = 3, PARTNER_FRAMES = 2 };
+enum { LAN_A = 10, LAN_B = 11 }; /* the LAN ids of the two paths */
 
 typedef struct {
     uint8_t octets[AHZ_FCS_LONGEST];
     size_t length;
 } Frame;
 
-/* Frames to 02:00:00:00:00:07 are the journal's; frames from 02:00:00:00:00:02 that have no VLAN are reports. */
+/* Frames to 02:00:00:00:00:07 are the journal's; frames from 02:00:00:00:00:02 that have no VLAN are reports; frames from 02:00:00:00:00:03
+ * are the partner's. */
 static const uint8_t table[] = {
     AHZ_KIND_DESTINATION, 0x02, 0, 0, 0, 0, 0x07, AHZ_CHOICE_ALL,      0, AHZ_VLAN_ANY, 0, JOURNAL,
     AHZ_KIND_SOURCE,      0x02, 0, 0, 0, 0, 0x02, AHZ_CHOICE_PRIORITY, 0, AHZ_VLAN_ANY, 0, REPORTS,
+    AHZ_KIND_SOURCE,      0x02, 0, 0, 0, 0, 0x03, AHZ_CHOICE_ALL,      0, AHZ_VLAN_ANY, 0, PARTNER,
 };
 
 /* A refusal has a number and a sentence. Of a frame or card from the wire it is what the layer is for, and what was refused is dropped; of
@@ -53,6 +57,14 @@ static Frame report(unsigned entry) {
     return frame_of(head, sizeof head, cards, sizeof cards);
 }
 
+/* A partner's frame: one card, and zeros up to the 54 octets that are 60 with the trailer, the first of which ends the cards. It is padded
+ * before the trailer is put in: this stands last, and its size counts the padding. */
+static Frame partner(unsigned entry) {
+    static const uint8_t head[] = {0x02, 0, 0, 0, 0, 0x09, 0x02, 0, 0, 0, 0, 0x03, 0x88, 0xB5};
+    const uint8_t cards[40] = {AHZ_CARD_RAW_CODE, 0, (uint8_t)(100 + entry)};
+    return frame_of(head, sizeof head, cards, sizeof cards);
+}
+
 /* Puts the stream's next number into a frame: 0 where the program can go on. A generator is a type of its own, so that it is never sent
  * as a number itself. */
 static int put_number(Frame *frame, ahz_generator_t *generator) {
@@ -60,6 +72,15 @@ static int put_number(Frame *frame, ahz_generator_t *generator) {
     Frame sent;
     const uint8_t answer = ahz_insert(frame->octets, frame->length, number, sent.octets, sizeof sent.octets, &sent.length);
     if (answer != AHZ_DONE) return refused("ahz_insert", answer);
+    *frame = sent;
+    return 0;
+}
+
+/* The same under PRP, where both paths get the frame under one number, each with the id of its LAN. */
+static int put_trailer(Frame *frame, uint16_t number, uint8_t lan_id) {
+    Frame sent;
+    const uint8_t answer = ahz_insert_prp(frame->octets, frame->length, number, lan_id, sent.octets, sizeof sent.octets, &sent.length);
+    if (answer != AHZ_DONE) return refused("ahz_insert_prp", answer);
     *frame = sent;
     return 0;
 }
@@ -99,6 +120,16 @@ static void walk(const uint8_t *payload, size_t octets) {
     }
 }
 
+/* The encoding is the program's to know for each stream: in it the frame is read, and the number taken off. */
+static uint8_t read_number(uint16_t handle, ahz_header_t *header, const uint8_t *octets, size_t length) {
+    return handle == PARTNER ? ahz_header_read_prp(header, octets, length) : ahz_header_read(header, octets, length);
+}
+
+static uint8_t take_number_off(uint16_t handle, const uint8_t *octets, size_t length, Frame *bare) {
+    return handle == PARTNER ? ahz_remove_prp(octets, length, bare->octets, sizeof bare->octets, &bare->length)
+                             : ahz_remove(octets, length, bare->octets, sizeof bare->octets, &bare->length);
+}
+
 /* One frame from the wire: 0 where the program can go on. */
 static int arrive(char path, const Frame *frame, ahz_state_t *states) {
     ahz_header_t header;
@@ -115,39 +146,42 @@ static int arrive(char path, const Frame *frame, ahz_state_t *states) {
         return 0;
     }
     length = ahz_without_fcs(frame->octets, frame->length); /* all other calls take a frame without its check */
-    answer = ahz_header_read(&header, frame->octets, length);
-    if (answer != AHZ_DONE) {
-        (void)refused("ahz_read", answer);
-        return 0;
-    }
     answer = ahz_lookup(table, sizeof table, frame->octets, length, &handle);
     if (answer == AHZ_NO_STREAM) {
         printf("no stream\n");
         return 0;
     }
-    if (answer != AHZ_STREAM) return refused("ahz_lookup", answer);
+    if (answer != AHZ_STREAM) { /* the table was found good at the start, so it is the frame that is refused */
+        (void)refused("ahz_lookup", answer);
+        return 0;
+    }
     if (handle >= STREAMS) {
         printf("handle %u is not one of the streams: the table is wrong\n", (unsigned)handle);
         return 1;
     }
 
-    /* The handle picks the state. The header says whether there is a number to be heard: a frame without one is not number 0. */
+    /* The handle picks the encoding and the state. The header says whether there is a number to be heard: a frame without one is not
+     * number 0. */
+    answer = read_number(handle, &header, frame->octets, length);
+    if (answer != AHZ_DONE) return refused("the reading", answer);
     numbered = ahz_header_numbered(&header, &number);
     if (numbered) {
-        printf("stream %u, number %u: ", (unsigned)handle, (unsigned)number);
+        printf("stream %u, number %u", (unsigned)handle, (unsigned)number);
+        if (handle == PARTNER) printf(" by LAN %u", (unsigned)ahz_header_path_id(&header));
         verdict = ahz_state_numbered(&states[handle], number);
     } else {
-        printf("stream %u, no number: ", (unsigned)handle);
+        printf("stream %u, no number", (unsigned)handle);
         verdict = ahz_state_tagless(&states[handle]);
     }
+    printf(": ");
     if (ahz_is_refusal(verdict)) return refused("the state", verdict);
     if (verdict == AHZ_DISCARD) {
         printf("discard\n");
         return 0;
     }
     if (numbered) {
-        answer = ahz_remove(frame->octets, length, bare.octets, sizeof bare.octets, &bare.length);
-        if (answer != AHZ_DONE) return refused("ahz_remove", answer);
+        answer = take_number_off(handle, frame->octets, length, &bare);
+        if (answer != AHZ_DONE) return refused("the removal", answer);
     } else {
         bare = *frame;
         bare.length = length;
@@ -201,28 +235,35 @@ static const ahz_setup_t setups[STREAMS] = {
      .rate = AHZ_PER_SECOND(100), .paths = 2, .difference = 2},
     {.rule = AHZ_RULE_MATCH, .taken = AHZ_TAKEN, .use = AHZ_USE_SEQUENCE, .history = 8, .timeout = AHZ_MS(25), .rate = AHZ_PER_SECOND(100),
      .paths = 2, .difference = 2},
+    {.rule = AHZ_RULE_VECTOR, .taken = AHZ_NOT_TAKEN, .use = AHZ_USE_SEQUENCE, .history = 8, .timeout = AHZ_MS(50),
+     .rate = AHZ_PER_SECOND(100), .paths = 2, .difference = 2},
 };
 
 int main(void) {
     ahz_state_t states[STREAMS];
-    Frame j[JOURNAL_FRAMES], r[REPORT_FRAMES];
-    Frame no_number = journal(9), no_number_either = report(9), stranger = journal(9), cut = journal(9), changed;
-    Frame *const others[] = {&no_number, &no_number_either, &stranger, &cut};
+    Frame j[JOURNAL_FRAMES], r[REPORT_FRAMES], by_a[PARTNER_FRAMES], by_b[PARTNER_FRAMES];
+    Frame no_number = journal(9), no_number_either = report(9), stranger = journal(9), cut = journal(9), changed, padded = partner(9);
+    Frame *const others[] = {&no_number, &no_number_either, &stranger, &cut, &padded};
     const struct {
         char path;
         const Frame *frame;
-    } arrivals[] = {{'B', &j[0]}, {'B', &j[0]},      {'A', &j[0]}, {'A', &j[1]}, {'B', &j[3]},     {'A', &r[0]},
-                    {'B', &j[2]}, {'A', &no_number}, {'A', &j[2]}, {'A', &r[1]}, {'B', &stranger}, {'A', &j[3]},
-                    {'B', &j[4]}, {'A', &j[4]},      {'B', &cut},  {'A', &r[2]}, {'B', &changed},  {'A', &no_number_either}};
+    } arrivals[] = {{'B', &j[0]},    {'B', &j[0]},      {'A', &j[0]},    {'A', &j[1]},   {'B', &j[3]},     {'A', &r[0]},
+                    {'B', &j[2]},    {'A', &no_number}, {'A', &j[2]},    {'A', &r[1]},   {'B', &stranger}, {'A', &j[3]},
+                    {'B', &j[4]},    {'A', &j[4]},      {'B', &cut},     {'A', &r[2]},   {'B', &changed},  {'A', &no_number_either},
+                    {'A', &by_a[0]}, {'B', &by_b[0]},   {'B', &by_b[1]}, {'A', &padded}, {'A', &by_a[1]}};
     ahz_generator_t journal_generator = ahz_generator_fresh(), report_generator = ahz_generator_fresh();
+    ahz_generator_t partner_generator = ahz_generator_fresh();
+    uint8_t answer;
     unsigned i;
 
     if (!ahz_version_fits()) {
         printf("the archive is not one for version %d.%d\n", AHZ_VERSION_MAJOR, AHZ_VERSION_MINOR);
         return 1;
     }
+    answer = ahz_check_table(table, sizeof table);
+    if (answer != AHZ_DONE) return refused("ahz_check_table", answer);
     for (i = 0; i < STREAMS; i++) {
-        const uint8_t answer = ahz_state_fresh(&states[i], setups[i]);
+        answer = ahz_state_fresh(&states[i], setups[i]);
         if (answer != AHZ_DONE) return refused("ahz_fresh_v4", answer);
     }
     for (i = 0; i < JOURNAL_FRAMES; i++) {
@@ -233,8 +274,16 @@ int main(void) {
         r[i] = report(i);
         if (put_number(&r[i], &report_generator) != 0 || put_check(&r[i]) != 0) return 1;
     }
+    for (i = 0; i < PARTNER_FRAMES; i++) {
+        const uint16_t number = ahz_generator_next(&partner_generator);
+        by_a[i] = by_b[i] = partner(i);
+        if (put_trailer(&by_a[i], number, LAN_A) != 0 || put_check(&by_a[i]) != 0) return 1;
+        if (put_trailer(&by_b[i], number, LAN_B) != 0 || put_check(&by_b[i]) != 0) return 1;
+    }
     stranger.octets[5] = 0x08; /* the last octet of its destination */
     cut.length = 16; /* behind its C-TAG, by its sender: so its check is good, and the frame is not */
+    if (put_trailer(&padded, ahz_generator_next(&partner_generator), LAN_A) != 0) return 1;
+    padded.octets[padded.length++] = 0; /* behind its trailer, which then is none */
     for (i = 0; i < sizeof others / sizeof others[0]; i++) {
         if (put_check(others[i]) != 0) return 1;
     }

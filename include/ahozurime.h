@@ -50,10 +50,11 @@
  * archive fits a program where its MAJOR is that of the program's header and its MINOR is not less: ahz_version_fits.
  *
  * What was compiled against an older header must not link and mean something else. So a call whose arguments, or the octets or words lent
- * to it, get another meaning gets a new name, with the MAJOR since which it is so, and the old name is gone. The words of a state have
- * their format for this, and the steps on it keep their names: a state that an older version stored, and the fewer words that an older
- * object lends, are refused (14). Not found out is an older object that only holds, copies or reads states or counters, and in C++ one
- * whose typed forms the linker joins with a newer object's: compile all of a program against one header.
+ * to it, get another meaning gets a new name, with the MAJOR since which it is so, and the old name is gone; but from 4 to 5 none did, as
+ * is said there. The words of a state have their format for this, and the steps on it keep their names: a state that an older version
+ * stored, and the fewer words that an older object lends, are refused (14). Not found out is an older object that only holds, copies or
+ * reads states, counters or headers, and in C++ one whose typed forms the linker joins with a newer object's: compile all of a program
+ * against one header.
  *
  * From 1 to 2 a setup got a use, AHZ_USE_SEQUENCE or AHZ_USE_INDIVIDUAL: whether a discarded packet restarts the timer too.
  *   Names: ahz_check_setup, ahz_fresh and ahz_tape became ahz_check_setup_v2, ahz_fresh_v2 and ahz_tape_v2, and AHZ_R_TAKEN became
@@ -83,9 +84,23 @@
  *     Words have to be read by AHZ_S_.., as before. With 24 words in place of AHZ_S_WORDS a fresh state is refused by 8, a step by 14.
  *
  * From 4.0 to 4.1 the frame check sequence was added: ahz_crc32, ahz_check_fcs, ahz_without_fcs, ahz_append_fcs, AHZ_FCS_.. and refusal 28.
- *   Refusals 1 and 2 are for a frame with its check too, and their sentences say so. A program for 4.0 needs no change. */
-#define AHZ_VERSION_MAJOR 4
-#define AHZ_VERSION_MINOR 1
+ *   Refusals 1 and 2 are for a frame with its check too, and their sentences say so. A program for 4.0 needs no change.
+ *
+ * From 4 to 5 the HSR tag and the PRP trailer were added, and 892F at a tag's place is a tag for every stream, as F1C1 is.
+ *   Added: ahz_read_hsr, ahz_read_prp, ahz_insert_hsr, ahz_insert_prp, ahz_remove_hsr and ahz_remove_prp, with typed forms and constants,
+ *     and refusal 37. Refusals 4, 6 and 9 are for the new encodings too, and their sentences say so.
+ *   Frames: two kinds mean something else to ahz_read, ahz_payload, ahz_insert, ahz_remove and ahz_lookup. One with 892F behind its source
+ *     address or its C-TAG had that for its type, and now has the type and the payload that stand six octets further on. It is refused by 3
+ *     where it ends before that type, and by 4 where that is 8100, F1C1 or 892F; else ahz_insert, which put an R-TAG in, refuses it by 6.
+ *     The other kind has 892F behind its R-TAG, and is refused by 4. So no frame has the type 892F any more: a program that looked for it
+ *     calls ahz_read_hsr. All other frames are to these calls what they were.
+ *   Names: all are kept, those of these five calls too: a sender of R-TAGs writes no frame of those two kinds, and of what it writes a
+ *     program for 4.1 is told what it was told before. A program for 5 that makes no new call links with an archive of version 4 as well:
+ *     ahz_version_fits tells.
+ *   Sources: one that has no frames of those two kinds needs no change. ahz_header_t has AHZ_H_ID_WORDS words, and had AHZ_H_WORDS: the
+ *     path id is one more. ahz_read writes AHZ_H_WORDS as before; with so few ahz_read_hsr and ahz_read_prp refuse by 8. */
+#define AHZ_VERSION_MAJOR 5
+#define AHZ_VERSION_MINOR 0
 #define AHZ_VERSION (AHZ_VERSION_MAJOR * 65536u + AHZ_VERSION_MINOR)
 
 /* Octets of stack that are enough for ahz_tape_v3; for ahz_crc32 and the three calls with fcs in their name; and for every other call. */
@@ -118,13 +133,13 @@ enum {
     /* The refusals. */
     AHZ_R_FRAME_SHORT = 1,     /* a frame under 14 octets, or under 18 with its check */
     AHZ_R_FRAME_LONG = 2,      /* a frame over 1,522 octets, or over 1,526 with its check */
-    AHZ_R_TAG_CUT = 3,         /* the octets end before the type after a tag */
-    AHZ_R_TAG_TWICE = 4,       /* 8100 after a C-TAG; 8100 or F1C1 after an R-TAG */
+    AHZ_R_TAG_CUT = 3,         /* the octets end before the type after a tag, be it a C-TAG, an R-TAG or an HSR tag */
+    AHZ_R_TAG_TWICE = 4,       /* 8100 after a C-TAG; 8100, F1C1 or 892F after an R-TAG or an HSR tag */
     AHZ_R_VLAN = 5,            /* VLAN id 4,095 */
-    AHZ_R_TAG_THERE = 6,       /* insertion: there is an R-TAG */
+    AHZ_R_TAG_THERE = 6,       /* insertion: there is an R-TAG or an HSR tag */
     AHZ_R_RESULT_LONG = 7,     /* the result would be over 1,522 octets */
     AHZ_R_OUTPUT_SHORT = 8,    /* the lent output is shorter than the result */
-    AHZ_R_NO_TAG = 9,          /* removal: there is no R-TAG */
+    AHZ_R_NO_TAG = 9,          /* removal: there is no number in the stream's encoding */
     AHZ_R_ENTRY_KIND = 10,     /* table: an entry of no known kind */
     AHZ_R_ENTRY_CUT = 11,      /* table: the octets end inside an entry */
     AHZ_R_ENTRY_RANGE = 12,    /* table: an entry's choice or VLAN is out of range */
@@ -140,6 +155,7 @@ enum {
     AHZ_R_CALIBRATION = 22,    /* not 0 < gain <= 1 or not -100 <= offset <= 100, a NaN among them */
     AHZ_R_TAKEN_OR_USE = 27,   /* setup: taken flag or use not 0 or 1 */
     AHZ_R_FCS = 28,            /* the frame check sequence does not match */
+    AHZ_R_PATH_ID = 37,        /* insertion: a path or LAN id over 15 */
 
     /* The faults of a tape. */
     AHZ_FAULT_KIND = 23,       /* an event of no known kind */
@@ -169,10 +185,25 @@ enum {
 /* The version of the archive that is linked, as AHZ_VERSION is written. */
 AHZ_USE_ANSWER uint32_t ahz_version(void);
 
-/* ---- Frames: destination 6, source 6, an optional C-TAG, an optional R-TAG, a type of 2, the payload; no frame check sequence ---- */
+/* ---- Frames: destination 6, source 6, an optional C-TAG, an optional R-TAG or HSR tag, a type of 2, a payload; no check sequence ---- */
 
-/* All numbers in octets are big-endian, but for a frame's check. A C-TAG is 81 00 and 16 bits, the VLAN id in the low 12. An R-TAG is
- * F1 C1, two reserved octets, written zero and ignored on reading, and a number of 16 bits.
+/* All numbers in octets are big-endian, but for a frame's check. A C-TAG is 81 00 and 16 bits, the VLAN id in the low 12.
+ *
+ * A frame carries its number in one of three encodings. Which one, is chosen for each stream, and a call's name says by which it goes:
+ *   R-TAG         F1 C1, two reserved octets, written zero and ignored on reading, the number; by the calls whose names have no ending
+ *   HSR tag       89 2F, 16 bits with the path id in the high 4 and the size in the low 12, the number; by those in _hsr
+ *   PRP trailer   the number, 16 bits with the LAN id in the high 4 and the size in the low 12, 88 FB; by those in _prp
+ * The number has 16 bits, and each encoding six octets. A tag stands behind the C-TAG if there is one, else behind the source address; a
+ * trailer is the last six octets of the frame. The size is the octets of the payload as it is before insertion, and 6 for these.
+ *
+ * Either tag is one to every call, whatever its encoding: the last type and the payload stand behind it. Its number is one to the calls of
+ * its own encoding alone. The size of an HSR tag is not compared. To the calls in _prp the number is that of the trailer, whatever tag is
+ * in front, and there is a trailer only where the payload, with it, has at least 6 octets, the size is that of this payload, and 88 FB ends
+ * it. Else the frame has no number, and what stands there is payload.
+ *
+ * No call pads. Where a wire wants 60 octets before the check, pad the frame first: under PRP this has to be so, since the trailer stands
+ * last and its size counts the padding. A frame that was padded behind its trailer has no number.
+ *
  * All calls but ahz_check_fcs and ahz_without_fcs take a frame without its check. Where a rig leaves it on, call ahz_check_fcs, and hand
  * the first ahz_without_fcs octets to the others. */
 enum {
@@ -180,9 +211,14 @@ enum {
     AHZ_FRAME_LONGEST = 1522,
     AHZ_CTAG_OCTETS = 4,
     AHZ_RTAG_OCTETS = 6,
+    AHZ_HSR_OCTETS = 6,
+    AHZ_PRP_OCTETS = 6,
     AHZ_TYPE_CTAG = 0x8100,
     AHZ_TYPE_RTAG = 0xF1C1,
-    AHZ_VLAN_LAST = 4094       /* 4,095 is refused, in a frame and in a table */
+    AHZ_TYPE_HSR = 0x892F,
+    AHZ_SUFFIX_PRP = 0x88FB,
+    AHZ_VLAN_LAST = 4094,      /* 4,095 is refused, in a frame and in a table */
+    AHZ_PATH_ID_LAST = 15      /* of a path id and of a LAN id */
 };
 
 /* The words of a header. An address is its six octets as one big-endian number. */
@@ -191,29 +227,65 @@ enum {
     AHZ_H_SOURCE = 1,
     AHZ_H_TAGGED = 2,          /* 1 with a C-TAG, else 0 */
     AHZ_H_VLAN = 3,            /* the VLAN id, 0 without a C-TAG */
-    AHZ_H_NUMBERED = 4,        /* 1 with an R-TAG, else 0 */
-    AHZ_H_NUMBER = 5,          /* its number, 0 without an R-TAG: look at AHZ_H_NUMBERED first */
+    AHZ_H_NUMBERED = 4,        /* 1 with a number in the call's encoding, else 0 */
+    AHZ_H_NUMBER = 5,          /* that number, 0 without one: look at AHZ_H_NUMBERED first */
     AHZ_H_TYPE = 6,            /* the last type */
-    AHZ_H_PAYLOAD = 7,         /* where the payload starts; it goes to the end of the frame */
-    AHZ_H_WORDS = 8
+    AHZ_H_PAYLOAD = 7,         /* where the payload starts; it goes to the end of the frame, a trailer with it */
+    AHZ_H_WORDS = 8,           /* of ahz_read */
+    AHZ_H_PATH_ID = 8,         /* the path or LAN id, 0 without a number; not of ahz_read */
+    AHZ_H_ID_WORDS = 9         /* of ahz_read_hsr and ahz_read_prp */
 };
 
-/* Reads a frame and writes AHZ_H_WORDS words to the start of header; later words of it stay. Answers 0.
- * Refusals, in this order: 1, 2, at a C-TAG 3, 5, 4, at an R-TAG 3, 4; then 8 where header has fewer than AHZ_H_WORDS words. */
+/* Reads a frame of an R-TAG stream and writes AHZ_H_WORDS words to the start of header; later words of it stay. Answers 0.
+ * Refusals, in this order: 1, 2, at a C-TAG 3, 5, 4, at an R-TAG or an HSR tag 3, 4; then 8 where header has fewer than AHZ_H_WORDS
+ * words. */
 AHZ_USE_ANSWER uint8_t ahz_read(const uint8_t *frame, size_t frame_octets, uint64_t *header, size_t header_words);
 
-/* How many octets the payload has: the last ones of the frame. 0 where ahz_read refuses the frame, and where its payload is empty. */
+/* Reads a frame of an HSR stream and writes AHZ_H_ID_WORDS words to the start of header; later words of it stay. Answers 0.
+ * Refusals, in this order: 1 to 5 as ahz_read; 8 where header has fewer than AHZ_H_ID_WORDS words. */
+AHZ_USE_ANSWER uint8_t ahz_read_hsr(const uint8_t *frame, size_t frame_octets, uint64_t *header, size_t header_words);
+
+/* Reads a frame of a PRP stream and writes AHZ_H_ID_WORDS words to the start of header; later words of it stay. Answers 0.
+ * Refusals, in this order: 1 to 5 as ahz_read; 8 where header has fewer than AHZ_H_ID_WORDS words. */
+AHZ_USE_ANSWER uint8_t ahz_read_prp(const uint8_t *frame, size_t frame_octets, uint64_t *header, size_t header_words);
+
+/* How many octets the payload has: the last ones of the frame. 0 where ahz_read refuses the frame, and where its payload is empty. It is
+ * for every stream: the payload of a frame with a trailer has this at its end. */
 AHZ_USE_ANSWER size_t ahz_payload(const uint8_t *frame, size_t frame_octets);
 
 /* Writes the frame with an R-TAG of that number to out, its octets after a C-TAG if there is one, else after the source address, and the
  * result's length to length. Later octets of out stay. Answers 0. out must have room for the result, frame_octets + AHZ_RTAG_OCTETS.
- * Refusals, in this order: 1 to 5 as ahz_read; 6 the frame has an R-TAG; 7 the result is over 1,522; 8 out is shorter than it. */
+ * Refusals, in this order: 1 to 5 as ahz_read; 6 the frame has an R-TAG or an HSR tag; 7 the result is over 1,522; 8 out is shorter than
+ * it. */
 AHZ_USE_ANSWER uint8_t ahz_insert(const uint8_t *frame, size_t frame_octets, uint16_t number, uint8_t *out, size_t out_octets,
                                   size_t *length);
+
+/* Writes the frame with an HSR tag of that number and path id to out, at the place of an R-TAG, and the result's length to length. Later
+ * octets of out stay. Answers 0. out must have room for the result, frame_octets + AHZ_HSR_OCTETS.
+ * Refusals, in this order: 1 to 5 as ahz_read; 37 the path id is 16 or over, be there a tag or not; 6 the frame has an R-TAG or an HSR tag;
+ * 7 the result is over 1,522; 8 out is shorter than it. */
+AHZ_USE_ANSWER uint8_t ahz_insert_hsr(const uint8_t *frame, size_t frame_octets, uint16_t number, uint8_t path_id, uint8_t *out,
+                                      size_t out_octets, size_t *length);
+
+/* Writes the frame with a PRP trailer of that number and LAN id behind it to out, and the result's length to length. Later octets of out
+ * stay. Answers 0. out must have room for the result, frame_octets + AHZ_PRP_OCTETS.
+ * Refusals, in this order: 1 to 5 as ahz_read; 37 the LAN id is 16 or over; 7 the result is over 1,522; 8 out is shorter than it. Never 6:
+ * a tag stays where it is, and a trailer that the frame has already counts as payload. */
+AHZ_USE_ANSWER uint8_t ahz_insert_prp(const uint8_t *frame, size_t frame_octets, uint16_t number, uint8_t lan_id, uint8_t *out,
+                                      size_t out_octets, size_t *length);
 
 /* Writes the frame without its R-TAG to out, and the result's length, frame_octets - AHZ_RTAG_OCTETS, to length. Later octets of out stay.
  * Answers 0. Refusals, in this order: 1 to 5 as ahz_read; 9 the frame has no R-TAG; 8 out is shorter than the result. */
 AHZ_USE_ANSWER uint8_t ahz_remove(const uint8_t *frame, size_t frame_octets, uint8_t *out, size_t out_octets, size_t *length);
+
+/* Writes the frame without its HSR tag to out, and the result's length, frame_octets - AHZ_HSR_OCTETS, to length. Later octets of out stay.
+ * Answers 0. Refusals, in this order: 1 to 5 as ahz_read; 9 the frame has no HSR tag; 8 out is shorter than the result. */
+AHZ_USE_ANSWER uint8_t ahz_remove_hsr(const uint8_t *frame, size_t frame_octets, uint8_t *out, size_t out_octets, size_t *length);
+
+/* Writes the frame without its PRP trailer to out, and the result's length, frame_octets - AHZ_PRP_OCTETS, to length. Later octets of out
+ * stay. Answers 0. Refusals, in this order: 1 to 5 as ahz_read; 9 the frame has no PRP trailer; 8 out is shorter than the result. Where
+ * ahz_read_prp found a number, the result is the first octets of the frame, and a program may take them without a copy. */
+AHZ_USE_ANSWER uint8_t ahz_remove_prp(const uint8_t *frame, size_t frame_octets, uint8_t *out, size_t out_octets, size_t *length);
 
 /* ---- The frame check sequence: behind the payload 4 octets, the CRC-32 of all octets before them, low octet first ---- */
 
@@ -259,7 +331,8 @@ enum {
  * Refusals, entry by entry, each in this order: 13 it is the 257th; 10 its kind; 11 it is cut; 12 its choice or VLAN. */
 AHZ_USE_ANSWER uint8_t ahz_check_table(const uint8_t *table, size_t table_octets);
 
-/* Looks the frame's stream up. AHZ_STREAM: the first match's handle is in handle. AHZ_NO_STREAM: none matches, handle stays.
+/* Looks the frame's stream up. AHZ_STREAM: the first match's handle is in handle. AHZ_NO_STREAM: none matches, handle stays. The number
+ * is not asked for, so it is for every encoding: look up first, and then read the frame in the encoding of its stream.
  * Refusals: first the table's, as ahz_check_table; then the frame's, 1 to 5 as ahz_read. */
 AHZ_USE_ANSWER uint8_t ahz_lookup(const uint8_t *table, size_t table_octets, const uint8_t *frame, size_t frame_octets, uint16_t *handle);
 
@@ -532,9 +605,9 @@ typedef struct {
     uint64_t before_first;
 } ahz_counters_t;
 
-/* What was read of a frame. */
+/* What was read of a frame, in whichever encoding. */
 typedef struct {
-    uint64_t words[AHZ_H_WORDS];
+    uint64_t words[AHZ_H_ID_WORDS];
 } ahz_header_t;
 
 /* What stands next in a payload: the answer, and the number that it names. Look at the answer first: a number that it does not name is 0,
@@ -569,12 +642,12 @@ AHZ_USE_ANSWER AHZ_INLINE const char *ahz_refusal_sentence(uint8_t refusal) {
     case AHZ_R_FRAME_SHORT: return "frame under 14 octets, or under 18 with its check";
     case AHZ_R_FRAME_LONG: return "frame over 1,522 octets, or over 1,526 with its check";
     case AHZ_R_TAG_CUT: return "octets end before the type after a tag";
-    case AHZ_R_TAG_TWICE: return "8100 after a C-TAG, or 8100 or F1C1 after an R-TAG";
+    case AHZ_R_TAG_TWICE: return "8100 after a C-TAG, or 8100, F1C1 or 892F after an R-TAG or an HSR tag";
     case AHZ_R_VLAN: return "VLAN id 4,095";
-    case AHZ_R_TAG_THERE: return "insertion into a frame with an R-TAG";
+    case AHZ_R_TAG_THERE: return "insertion into a frame with an R-TAG or an HSR tag";
     case AHZ_R_RESULT_LONG: return "result over 1,522 octets";
     case AHZ_R_OUTPUT_SHORT: return "output shorter than the result";
-    case AHZ_R_NO_TAG: return "removal from a frame without an R-TAG";
+    case AHZ_R_NO_TAG: return "removal from a frame without a number in the stream's encoding";
     case AHZ_R_ENTRY_KIND: return "table entry of no known kind";
     case AHZ_R_ENTRY_CUT: return "octets end inside a table entry";
     case AHZ_R_ENTRY_RANGE: return "choice or VLAN of a table entry out of range";
@@ -594,6 +667,7 @@ AHZ_USE_ANSWER AHZ_INLINE const char *ahz_refusal_sentence(uint8_t refusal) {
     case AHZ_FAULT_LONG: return "tape over 4,096 octets";
     case AHZ_R_TAKEN_OR_USE: return "taken flag or use not 0 or 1";
     case AHZ_R_FCS: return "frame check sequence does not match";
+    case AHZ_R_PATH_ID: return "path or LAN id over 15";
     default: return "no refusal";
     }
 }
@@ -618,12 +692,24 @@ AHZ_USE_ANSWER AHZ_INLINE ahz_ticks_t ahz_full_ticks(ahz_milliseconds_t timeout,
     return unit;
 }
 
-/* ahz_read. */
+/* ahz_read; the path id, which an R-TAG does not have, is 0. */
 AHZ_USE_ANSWER AHZ_INLINE uint8_t ahz_header_read(ahz_header_t *header, const uint8_t *frame, size_t frame_octets) {
-    return ahz_read(frame, frame_octets, header->words, AHZ_H_WORDS);
+    const uint8_t answer = ahz_read(frame, frame_octets, header->words, AHZ_H_WORDS);
+    if (answer == AHZ_DONE) header->words[AHZ_H_PATH_ID] = 0;
+    return answer;
 }
 
-/* What a header says; of a header that ahz_header_read wrote. The payload is where it starts in the frame. */
+/* ahz_read_hsr. */
+AHZ_USE_ANSWER AHZ_INLINE uint8_t ahz_header_read_hsr(ahz_header_t *header, const uint8_t *frame, size_t frame_octets) {
+    return ahz_read_hsr(frame, frame_octets, header->words, AHZ_H_ID_WORDS);
+}
+
+/* ahz_read_prp. */
+AHZ_USE_ANSWER AHZ_INLINE uint8_t ahz_header_read_prp(ahz_header_t *header, const uint8_t *frame, size_t frame_octets) {
+    return ahz_read_prp(frame, frame_octets, header->words, AHZ_H_ID_WORDS);
+}
+
+/* What a header says; of a header that one of the three wrote. The payload is where it starts in the frame. */
 AHZ_USE_ANSWER AHZ_INLINE uint64_t ahz_header_destination(const ahz_header_t *header) {
     return header->words[AHZ_H_DESTINATION];
 }
@@ -647,11 +733,17 @@ AHZ_USE_ANSWER AHZ_INLINE int ahz_header_tagged(const ahz_header_t *header, uint
     return 1;
 }
 
-/* 1 with an R-TAG, and its number in number; else 0, and number stays: such a packet is one for ahz_state_tagless. */
+/* 1 with a number in the encoding that was read, and that number in number; else 0, and number stays: such a packet is one for
+ * ahz_state_tagless. */
 AHZ_USE_ANSWER AHZ_INLINE int ahz_header_numbered(const ahz_header_t *header, uint16_t *number) {
     if (header->words[AHZ_H_NUMBERED] == 0) return 0;
     *number = AHZ_CAST(uint16_t, header->words[AHZ_H_NUMBER]);
     return 1;
+}
+
+/* The path or LAN id beside that number, 0 to 15; 0 without a number, and under R-TAG. */
+AHZ_USE_ANSWER AHZ_INLINE uint8_t ahz_header_path_id(const ahz_header_t *header) {
+    return AHZ_CAST(uint8_t, header->words[AHZ_H_PATH_ID]);
 }
 
 /* ahz_generator. */

@@ -12,6 +12,12 @@ REAL(ahz_read);
 REAL(ahz_payload);
 REAL(ahz_insert);
 REAL(ahz_remove);
+REAL(ahz_read_hsr);
+REAL(ahz_read_prp);
+REAL(ahz_insert_hsr);
+REAL(ahz_insert_prp);
+REAL(ahz_remove_hsr);
+REAL(ahz_remove_prp);
 REAL(ahz_crc32);
 REAL(ahz_check_fcs);
 REAL(ahz_without_fcs);
@@ -57,10 +63,108 @@ uint32_t ahz_version(void)
 
 /* ---- Frames ---- */
 
+static uint16_t two(const uint8_t *octets)
+{
+    return (uint16_t)(octets[0] << 8 | octets[1]);
+}
+
+static void put_two(uint8_t *octets, unsigned number)
+{
+    octets[0] = (uint8_t)(number >> 8);
+    octets[1] = (uint8_t)number;
+}
+
+/* The two octets at a place of a frame; 0 where it ends before them. */
+static uint16_t two_at(const uint8_t *frame, size_t frame_octets, size_t at)
+{
+    return at + 2 <= frame_octets ? two(frame + at) : 0;
+}
+
+/* Where an R-TAG or an HSR tag stands or would, and the type there. */
+static size_t tag_place(const uint8_t *frame, size_t frame_octets)
+{
+    return two_at(frame, frame_octets, 12) == AHZ_TYPE_CTAG ? 16 : 12;
+}
+
+static uint16_t tag_type(const uint8_t *frame, size_t frame_octets)
+{
+    return two_at(frame, frame_octets, tag_place(frame, frame_octets));
+}
+
+static int has_tag(const uint8_t *frame, size_t frame_octets)
+{
+    const uint16_t type = tag_type(frame, frame_octets);
+
+    return type == AHZ_TYPE_RTAG || type == AHZ_TYPE_HSR;
+}
+
+/* The frame with six octets put in at a place, and without the six that stand there. */
+static uint8_t with_six(const uint8_t *frame, size_t frame_octets, size_t at, const uint8_t *six, uint8_t *out, size_t *length)
+{
+    memcpy(out, frame, at);
+    memcpy(out + at, six, 6);
+    memcpy(out + at + 6, frame + at, frame_octets - at);
+    *length = frame_octets + 6;
+    return AHZ_DONE;
+}
+
+static uint8_t without_six(const uint8_t *frame, size_t frame_octets, size_t at, uint8_t *out, size_t *length)
+{
+    memcpy(out, frame, at);
+    memcpy(out + at, frame + at + 6, frame_octets - at - 6);
+    *length = frame_octets - 6;
+    return AHZ_DONE;
+}
+
+/* As much of a frame as there is room for. */
+static void write_some(const uint8_t *frame, size_t frame_octets, uint8_t *out, size_t room)
+{
+    memcpy(out, frame, room < frame_octets ? room : frame_octets);
+}
+
+typedef uint8_t reader(const uint8_t *frame, size_t frame_octets, uint64_t *header, size_t header_words);
+
+/* The place of a type that a reader takes for the last one, though it is a tag's or may not stand there; 0 where there is none. */
+static size_t misplaced(reader *real, const uint8_t *frame, size_t frame_octets)
+{
+    const size_t at = tag_place(frame, frame_octets);
+    const uint16_t type = two_at(frame, frame_octets, at), behind = two_at(frame, frame_octets, at + 6);
+
+    if (frame_octets > AHZ_FRAME_LONGEST)
+        return 0;
+    if (fault("892f-no-tag") && real == real_ahz_read && type == AHZ_TYPE_HSR)
+        return at;
+    if ((fault("892f-after-r") && type == AHZ_TYPE_RTAG && behind == AHZ_TYPE_HSR) ||
+        (fault("f1c1-after-hsr") && type == AHZ_TYPE_HSR && behind == AHZ_TYPE_RTAG) ||
+        (fault("892f-after-hsr") && type == AHZ_TYPE_HSR && behind == AHZ_TYPE_HSR) ||
+        (fault("8100-after-hsr") && type == AHZ_TYPE_HSR && behind == AHZ_TYPE_CTAG))
+        return at + 6;
+    return 0;
+}
+
+/* A reader that a type at a wrong place goes through. */
+static uint8_t read_through(reader *real, const uint8_t *frame, size_t frame_octets, uint64_t *header, size_t header_words)
+{
+    const size_t at = misplaced(real, frame, frame_octets);
+    uint8_t other[AHZ_FRAME_LONGEST], answer;
+
+    if (fault("892f-after-c-is-4") && frame_octets >= 24 && frame_octets <= AHZ_FRAME_LONGEST && two(frame + 12) == AHZ_TYPE_CTAG &&
+        (two(frame + 14) & 0xFFF) != 0xFFF && two(frame + 16) == AHZ_TYPE_HSR)
+        return AHZ_R_TAG_TWICE;
+    if (at == 0)
+        return real(frame, frame_octets, header, header_words);
+    memcpy(other, frame, frame_octets);
+    put_two(other + at, 0x0800);
+    answer = real(other, frame_octets, header, header_words);
+    if (answer == AHZ_DONE)
+        header[AHZ_H_TYPE] = two(frame + at);
+    return answer;
+}
+
 uint8_t ahz_read(const uint8_t *frame, size_t frame_octets, uint64_t *header, size_t header_words)
 {
     size_t octets = fault("length-16-bits") ? (uint16_t)frame_octets : frame_octets;
-    uint8_t answer = real_ahz_read(frame, octets, header, header_words);
+    uint8_t answer = read_through(real_ahz_read, frame, octets, header, header_words);
 
     if (fault("frame-changed") && frame_octets > 14)
         ((uint8_t *)frame)[frame_octets - 1] ^= 1;
@@ -72,12 +176,20 @@ uint8_t ahz_read(const uint8_t *frame, size_t frame_octets, uint64_t *header, si
         header[AHZ_H_VLAN] |= UINT64_C(1) << 40;
     if (fault("number-without-tag") && !header[AHZ_H_NUMBERED])
         header[AHZ_H_NUMBER] = header[AHZ_H_TYPE];
+    if (fault("hsr-number-in-r") && tag_type(frame, octets) == AHZ_TYPE_HSR) {
+        header[AHZ_H_NUMBERED] = 1;
+        header[AHZ_H_NUMBER] = two(frame + tag_place(frame, octets) + 4);
+    }
     return answer;
 }
 
 size_t ahz_payload(const uint8_t *frame, size_t frame_octets)
 {
-    return real_ahz_payload(frame, frame_octets);
+    size_t octets = real_ahz_payload(frame, frame_octets);
+
+    if (fault("892f-in-payload") && octets > 0 && tag_type(frame, frame_octets) == AHZ_TYPE_HSR)
+        return octets + 6;
+    return octets;
 }
 
 uint8_t ahz_insert(const uint8_t *frame, size_t frame_octets, uint16_t number, uint8_t *out, size_t out_octets, size_t *length)
@@ -89,6 +201,12 @@ uint8_t ahz_insert(const uint8_t *frame, size_t frame_octets, uint16_t number, u
         out[out_octets] = 0;
     if (fault("length-on-refusal") && answer == AHZ_R_OUTPUT_SHORT)
         *length = frame_octets + 6;
+    if (fault("r-before-hsr") && answer == AHZ_R_TAG_THERE && tag_type(frame, frame_octets) == AHZ_TYPE_HSR &&
+        out_octets >= frame_octets + 6) {
+        const uint8_t tag[6] = {0xF1, 0xC1, 0, 0, (uint8_t)(number >> 8), (uint8_t)number};
+
+        return with_six(frame, frame_octets, tag_place(frame, frame_octets), tag, out, length);
+    }
     return answer;
 }
 
@@ -102,7 +220,269 @@ uint8_t ahz_remove(const uint8_t *frame, size_t frame_octets, uint8_t *out, size
         memset(out + *length, 0, out_octets - *length);
     if (fault("refusal-writes") && answer == AHZ_R_OUTPUT_SHORT)
         memcpy(out, frame, out_octets);
+    if (fault("r-drops-hsr-tag") && answer == AHZ_R_NO_TAG && tag_type(frame, frame_octets) == AHZ_TYPE_HSR &&
+        out_octets >= frame_octets - 6)
+        return without_six(frame, frame_octets, tag_place(frame, frame_octets), out, length);
     return answer;
+}
+
+/* ---- HSR and PRP ---- */
+
+static void number_found(uint64_t *header, unsigned number, unsigned id)
+{
+    header[AHZ_H_NUMBERED] = 1;
+    header[AHZ_H_NUMBER] = number;
+    header[AHZ_H_PATH_ID] = id;
+}
+
+static void number_lost(uint64_t *header)
+{
+    header[AHZ_H_NUMBERED] = header[AHZ_H_NUMBER] = header[AHZ_H_PATH_ID] = 0;
+}
+
+/* What an HSR stream reads of a good frame. */
+static void read_tag(const uint8_t *frame, size_t frame_octets, uint64_t *header)
+{
+    const size_t at = tag_place(frame, frame_octets), payload = frame_octets - (size_t)header[AHZ_H_PAYLOAD];
+
+    if (fault("hsr-size-compared") && header[AHZ_H_NUMBERED] && (two(frame + at + 2) & 0xFFF) != payload + 6)
+        number_lost(header);
+    if (fault("r-number-in-hsr") && two(frame + at) == AHZ_TYPE_RTAG)
+        number_found(header, two(frame + at + 4), 0);
+}
+
+/* What a PRP stream reads of one. Each fault takes for a trailer what is none, or the other way round. */
+static void read_trailer(const uint8_t *frame, size_t frame_octets, uint64_t *header)
+{
+    const size_t at = tag_place(frame, frame_octets), payload = frame_octets - (size_t)header[AHZ_H_PAYLOAD];
+    const uint8_t *six = frame + frame_octets - 6;
+    const unsigned bits = two(six + 2), size = bits & 0xFFF, suffix = two(six + 4);
+    const int suffixed = payload >= 6 && suffix == AHZ_SUFFIX_PRP, sized = payload >= 6 && size == payload;
+    const int tagged = has_tag(frame, frame_octets), was = header[AHZ_H_NUMBERED] == 1;
+    int is = was;
+
+    if (fault("prp-size-less-six"))
+        is = suffixed && size == payload - 6;
+    if (fault("prp-size-with-tag"))
+        is = suffixed && size == payload + (tagged ? 6 : 0);
+    if ((fault("prp-wrong-size") && suffixed) || (fault("prp-size-11-bits") && suffixed && (size & 0x7FF) == payload) ||
+        (fault("prp-size-8-bits") && suffixed && (uint8_t)size == (uint8_t)payload) ||
+        (fault("prp-suffix-either") && sized && suffix == 0xFB88) || (fault("prp-suffix-half") && sized && (uint8_t)suffix == 0xFB) ||
+        (fault("trailer-in-5") && payload == 5 && size == 5 && suffix == AHZ_SUFFIX_PRP))
+        is = 1;
+    if ((fault("prp-id-in-size") && bits != payload) || (fault("no-trailer-in-6") && payload == 6) ||
+        (fault("tag-hides-trailer") && tagged))
+        is = 0;
+    if (is && !was)
+        number_found(header, two(six), bits >> 12);
+    if (!is && was)
+        number_lost(header);
+    if (fault("tag-number-in-prp") && !is && tagged)
+        number_found(header, two(frame + at + 4), 0);
+}
+
+/* A reader of nine words, for either encoding. */
+static uint8_t read_nine(int prp, const uint8_t *frame, size_t frame_octets, uint64_t *header, size_t header_words)
+{
+    reader *real = prp ? real_ahz_read_prp : real_ahz_read_hsr;
+    const size_t octets = fault("prp-length-16") && prp ? (uint16_t)frame_octets : frame_octets;
+    uint8_t answer = read_through(real, frame, octets, header, header_words);
+    uint64_t nine[AHZ_H_ID_WORDS];
+    unsigned bits;
+
+    if (fault("prp-looks-before") && prp)
+        looked_at = frame[(ptrdiff_t)frame_octets - 6];
+    if (fault("prp-looks-behind") && prp)
+        looked_at = frame[frame_octets];
+    if (fault("8-before-frame") && header_words < AHZ_H_ID_WORDS)
+        return AHZ_R_OUTPUT_SHORT;
+    if ((fault("eight-words-taken") || fault("words-on-8")) && answer == AHZ_R_OUTPUT_SHORT && header_words == AHZ_H_WORDS &&
+        real(frame, octets, nine, AHZ_H_ID_WORDS) == AHZ_DONE) {
+        memcpy(header, nine, AHZ_H_WORDS * sizeof *header);
+        return fault("eight-words-taken") ? AHZ_DONE : answer;
+    }
+    if (fault("ninth-on-refusal") && answer != AHZ_DONE && header_words >= AHZ_H_ID_WORDS)
+        header[AHZ_H_PATH_ID] = 0;
+    if (answer != AHZ_DONE)
+        return answer;
+    if (fault("tenth-word") && header_words > AHZ_H_ID_WORDS)
+        header[AHZ_H_ID_WORDS] = 0;
+    if (prp)
+        read_trailer(frame, octets, header);
+    else
+        read_tag(frame, octets, header);
+    if (fault("number-not-own") && !header[AHZ_H_NUMBERED] && has_tag(frame, octets))
+        header[AHZ_H_NUMBER] = two(frame + tag_place(frame, octets) + 4);
+    bits = two_at(frame, octets, prp ? octets - 4 : tag_place(frame, octets) + 2);
+    if (fault("id-not-answered"))
+        header[AHZ_H_PATH_ID] = 0;
+    if (fault("id-with-size") && header[AHZ_H_NUMBERED])
+        header[AHZ_H_PATH_ID] = bits;
+    if (fault("id-from-low-bits") && header[AHZ_H_NUMBERED])
+        header[AHZ_H_PATH_ID] = bits & 15;
+    if (fault("id-without-number") && !header[AHZ_H_NUMBERED])
+        header[AHZ_H_PATH_ID] = bits >> 12;
+    if (fault("size-mended") && !prp && header[AHZ_H_NUMBERED])
+        put_two((uint8_t *)frame + tag_place(frame, octets) + 2,
+                (bits & 0xF000) | (unsigned)(octets - (size_t)header[AHZ_H_PAYLOAD] + 6));
+    return answer;
+}
+
+uint8_t ahz_read_hsr(const uint8_t *frame, size_t frame_octets, uint64_t *header, size_t header_words)
+{
+    return read_nine(0, frame, frame_octets, header, header_words);
+}
+
+uint8_t ahz_read_prp(const uint8_t *frame, size_t frame_octets, uint64_t *header, size_t header_words)
+{
+    return read_nine(1, frame, frame_octets, header, header_words);
+}
+
+/* The refusal of an insertion into a frame that reading refuses or not, by faults in their order or in a bound; 0 where there is none. */
+static uint8_t refused_early(int prp, const uint8_t *frame, size_t frame_octets, uint8_t reading, uint8_t id, size_t room)
+{
+    const int over = id > AHZ_PATH_ID_LAST, good = reading == AHZ_DONE, tagged = has_tag(frame, frame_octets);
+
+    if (over && (fault("37-first") || (fault("37-before-5") && reading == AHZ_R_VLAN)))
+        return AHZ_R_PATH_ID;
+    if (good && tagged && ((fault("37-after-6") && over && !prp) || (fault("prp-6") && !over && prp)))
+        return AHZ_R_TAG_THERE;
+    if (good && ((fault("37-after-7") && over && frame_octets > 1516) || (fault("1516-not-put-in") && !over && frame_octets == 1516)))
+        return AHZ_R_RESULT_LONG;
+    if (fault("37-after-8") && good && over && room < frame_octets + 6)
+        return AHZ_R_OUTPUT_SHORT;
+    if (fault("id-15-refused") && good && id == 15)
+        return AHZ_R_PATH_ID;
+    return AHZ_DONE;
+}
+
+/* The six octets that were put in, each fault being a mistake in one of their numbers. */
+static void spoil(int prp, const uint8_t *frame, size_t frame_octets, uint8_t *six)
+{
+    const unsigned bits = two(six + 2), id = bits >> 12, size = bits & 0xFFF;
+    uint8_t *number = prp ? six : six + 4;
+
+    if (fault("id-size-swapped"))
+        put_two(six + 2, size << 4 | id);
+    if (fault("size-less-six"))
+        put_two(six + 2, bits - 6);
+    if (fault("size-with-type"))
+        put_two(six + 2, bits + 2);
+    if (fault("size-with-tag") && has_tag(frame, frame_octets))
+        put_two(six + 2, bits + 6);
+    if (fault("size-8-bits"))
+        put_two(six + 2, bits & 0xF0FF);
+    if (fault("id-left-out"))
+        put_two(six + 2, size);
+    if (fault("number-low-first"))
+        put_two(number, __builtin_bswap16(two(number)));
+    if (fault("hsr-as-r-tag") && !prp)
+        put_two(six, AHZ_TYPE_RTAG);
+    if (fault("suffix-swapped") && prp)
+        put_two(six + 4, 0xFB88);
+    if (fault("suffix-first") && prp) {
+        put_two(six + 4, two(six));
+        put_two(six, AHZ_SUFFIX_PRP);
+    }
+}
+
+static uint8_t insert_six(int prp, const uint8_t *frame, size_t frame_octets, uint16_t number, uint8_t id, uint8_t *out, size_t out_octets,
+                          size_t *length)
+{
+    __typeof__(ahz_insert_hsr) *real = prp ? real_ahz_insert_prp : real_ahz_insert_hsr;
+    const size_t room = fault("put-in-room-16") ? (uint16_t)out_octets : out_octets;
+    const size_t at = prp ? frame_octets : tag_place(frame, frame_octets);
+    uint64_t header[AHZ_H_WORDS];
+    const uint8_t reading = real_ahz_read(frame, frame_octets, header, AHZ_H_WORDS);
+    uint8_t six[6], answer = refused_early(prp, frame, frame_octets, reading, id, out_octets);
+
+    if (answer != AHZ_DONE)
+        return answer;
+    if (fault("id-cut") || (fault("id-16-taken") && id == 16))
+        id &= 15;
+    answer = real(frame, frame_octets, number, id, out, room, length);
+    /* Any six octets do where there should be none. */
+    memset(six, 0, sizeof six);
+    if (((fault("6-for-own-tag") && answer == AHZ_R_TAG_THERE && tag_type(frame, frame_octets) == AHZ_TYPE_RTAG) ||
+         (fault("1517-put-in") && answer == AHZ_R_RESULT_LONG && frame_octets == 1517)) &&
+        out_octets >= frame_octets + 6)
+        return with_six(frame, frame_octets, at, six, out, length);
+    if ((fault("37-writes") && answer == AHZ_R_PATH_ID) || (fault("put-in-on-8") && answer == AHZ_R_OUTPUT_SHORT))
+        write_some(frame, frame_octets, out, out_octets);
+    if (fault("37-length") && answer == AHZ_R_PATH_ID)
+        *length = frame_octets + 6;
+    if (answer != AHZ_DONE)
+        return answer;
+    spoil(prp, frame, frame_octets, out + at);
+    memcpy(six, out + at, 6);
+    if (fault("trailer-in-front") && prp)
+        return with_six(frame, frame_octets, (size_t)header[AHZ_H_PAYLOAD], six, out, length);
+    if (fault("hsr-before-c-tag") && !prp)
+        return with_six(frame, frame_octets, 12, six, out, length);
+    if (fault("put-in-behind"))
+        out[out_octets] = 0;
+    return answer;
+}
+
+uint8_t ahz_insert_hsr(const uint8_t *frame, size_t frame_octets, uint16_t number, uint8_t path_id, uint8_t *out, size_t out_octets,
+                       size_t *length)
+{
+    return insert_six(0, frame, frame_octets, number, path_id, out, out_octets, length);
+}
+
+uint8_t ahz_insert_prp(const uint8_t *frame, size_t frame_octets, uint16_t number, uint8_t lan_id, uint8_t *out, size_t out_octets,
+                       size_t *length)
+{
+    return insert_six(1, frame, frame_octets, number, lan_id, out, out_octets, length);
+}
+
+/* A removal from a frame that has a number in the encoding or, at 9, none. Each fault drops other octets, or where there is nothing to. */
+static uint8_t remove_six(int prp, const uint8_t *frame, size_t frame_octets, uint8_t *out, size_t out_octets, size_t *length)
+{
+    __typeof__(ahz_remove_hsr) *real = prp ? real_ahz_remove_prp : real_ahz_remove_hsr;
+    const size_t at = tag_place(frame, frame_octets);
+    uint64_t header[AHZ_H_WORDS];
+    const int good = real_ahz_read(frame, frame_octets, header, AHZ_H_WORDS) == AHZ_DONE;
+    const size_t payload_at = good ? (size_t)header[AHZ_H_PAYLOAD] : 0;
+    const int roomy = good && out_octets >= frame_octets - 6;
+    uint8_t answer;
+
+    if (fault("9-by-hsr-size") && !prp && good && (two_at(frame, frame_octets, at + 2) & 0xFFF) != frame_octets - payload_at + 6)
+        return AHZ_R_NO_TAG;
+    answer = real(frame, frame_octets, out, out_octets, length);
+    if (fault("8-before-9") && answer == AHZ_R_NO_TAG && !roomy)
+        return AHZ_R_OUTPUT_SHORT;
+    if (answer == AHZ_R_NO_TAG && roomy) {
+        if (fault("hsr-drops-r-tag") && !prp && tag_type(frame, frame_octets) == AHZ_TYPE_RTAG)
+            return without_six(frame, frame_octets, at, out, length);
+        if (fault("prp-drops-any") && prp && frame_octets - payload_at >= 6)
+            return without_six(frame, frame_octets, frame_octets - 6, out, length);
+    }
+    if (fault("taken-off-on-8") && answer == AHZ_R_OUTPUT_SHORT)
+        write_some(frame, frame_octets, out, out_octets);
+    if (answer != AHZ_DONE)
+        return answer;
+    if (fault("prp-drops-first") && prp)
+        return without_six(frame, frame_octets, payload_at, out, length);
+    if (fault("prp-drops-tag") && prp && has_tag(frame, frame_octets))
+        return without_six(frame, frame_octets, at, out, length);
+    if (fault("prp-drops-four") && prp && out_octets >= frame_octets - 4) {
+        memcpy(out, frame, frame_octets - 4);
+        *length = frame_octets - 4;
+    }
+    if (fault("trailer-cleared") && prp)
+        memset(out + *length, 0, out_octets - *length < 6 ? out_octets - *length : 6);
+    return answer;
+}
+
+uint8_t ahz_remove_hsr(const uint8_t *frame, size_t frame_octets, uint8_t *out, size_t out_octets, size_t *length)
+{
+    return remove_six(0, frame, frame_octets, out, out_octets, length);
+}
+
+uint8_t ahz_remove_prp(const uint8_t *frame, size_t frame_octets, uint8_t *out, size_t out_octets, size_t *length)
+{
+    return remove_six(1, frame, frame_octets, out, out_octets, length);
 }
 
 /* ---- The frame check sequence ---- */
@@ -292,6 +672,14 @@ uint8_t ahz_lookup(const uint8_t *table, size_t table_octets, const uint8_t *fra
     uint16_t lent = *handle;
     uint8_t answer = real_ahz_lookup(table, table_octets, frame, frame_octets, handle);
 
+    if (fault("892f-looked-up") && (answer == AHZ_R_TAG_CUT || answer == AHZ_R_TAG_TWICE) &&
+        tag_type(frame, frame_octets) == AHZ_TYPE_HSR) {
+        uint8_t other[AHZ_FRAME_LONGEST];
+
+        memcpy(other, frame, frame_octets);
+        put_two(other + tag_place(frame, frame_octets), 0x0800);
+        return real_ahz_lookup(table, table_octets, other, frame_octets, handle);
+    }
     if (fault("written-back") && frame_octets > 0)
         ((volatile uint8_t *)frame)[0] = frame[0];
     if (fault("dei-in-vlan") && answer == AHZ_STREAM && frame[12] == 0x81 && frame[13] == 0 && (frame[14] & 0x10)) {

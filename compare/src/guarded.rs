@@ -11,7 +11,8 @@
 #[cfg(target_os = "linux")]
 mod fenced;
 
-use crate::words::{SetupNumbers, HEADER, STATE};
+use crate::plain::encoding::Encoding;
+use crate::words::{SetupNumbers, HEADER, HEADER_WITH_ID, STATE};
 use ahozurime_sys as sys;
 use std::cell::Cell;
 use std::fmt::Debug;
@@ -177,13 +178,19 @@ fn is_refusal(answer: u8) -> bool {
 // Safety of each call below: a pointer comes with the length of the part that it points to, which
 // lies in a buffer of its own; one without a length points to one number.
 
-/// The answer and the header's words.
-pub fn read(frame: &[u8], header: &[u64]) -> (u8, Vec<u64>) {
+/// The answer and the header's words, of which only the R-TAG's lack an id.
+pub fn read(encoding: Encoding, frame: &[u8], header: &[u64]) -> (u8, Vec<u64>) {
+    type Read = unsafe extern "C" fn(*const u8, usize, *mut u64, usize) -> u8;
+    let (call, count): (Read, usize) = match encoding {
+        Encoding::RTag => (sys::ahz_read, HEADER),
+        Encoding::Hsr => (sys::ahz_read_hsr, HEADER_WITH_ID),
+        Encoding::Prp => (sys::ahz_read_prp, HEADER_WITH_ID),
+    };
     let mut lent = Lent::input(frame, OCTETS);
     let mut words = Lent::output(header, WORDS);
-    let answer = unsafe { sys::ahz_read(lent.at(), frame.len(), words.at(), header.len()) };
+    let answer = unsafe { call(lent.at(), frame.len(), words.at(), header.len()) };
     lent.stayed(frame, "the frame");
-    (answer, words.written(header, answer, HEADER, "the header"))
+    (answer, words.written(header, answer, count, "the header"))
 }
 
 pub fn payload(frame: &[u8]) -> usize {
@@ -210,17 +217,34 @@ fn writes(
     (answer, output.written(out, answer, told, "the output"), told)
 }
 
-/// The answer, the output and the length.
-pub fn insert(frame: &[u8], number: u16, out: &[u8], length: usize) -> (u8, Vec<u8>, usize) {
+/// The answer, the output and the length. The R-TAG has no id.
+pub fn insert(
+    encoding: Encoding,
+    frame: &[u8],
+    number: u16,
+    id: u8,
+    out: &[u8],
+    length: usize,
+) -> (u8, Vec<u8>, usize) {
+    let (octets, room) = (frame.len(), out.len());
     writes(frame, out, length, OCTETS, |at, output, told| unsafe {
-        sys::ahz_insert(at, frame.len(), number, output, out.len(), told)
+        match encoding {
+            Encoding::RTag => sys::ahz_insert(at, octets, number, output, room, told),
+            Encoding::Hsr => sys::ahz_insert_hsr(at, octets, number, id, output, room, told),
+            Encoding::Prp => sys::ahz_insert_prp(at, octets, number, id, output, room, told),
+        }
     })
 }
 
 /// The answer, the output and the length.
-pub fn remove(frame: &[u8], out: &[u8], length: usize) -> (u8, Vec<u8>, usize) {
+pub fn remove(encoding: Encoding, frame: &[u8], out: &[u8], length: usize) -> (u8, Vec<u8>, usize) {
+    let (octets, room) = (frame.len(), out.len());
     writes(frame, out, length, OCTETS, |at, output, told| unsafe {
-        sys::ahz_remove(at, frame.len(), output, out.len(), told)
+        match encoding {
+            Encoding::RTag => sys::ahz_remove(at, octets, output, room, told),
+            Encoding::Hsr => sys::ahz_remove_hsr(at, octets, output, room, told),
+            Encoding::Prp => sys::ahz_remove_prp(at, octets, output, room, told),
+        }
     })
 }
 

@@ -5,12 +5,13 @@
 //! what is not known is compared. What the raw calls are lent beside it is unlike every answer.
 
 use crate::plain::cards::{Calibration, Card, Volts};
+use crate::plain::encoding::Encoding;
 use crate::plain::frame::Header;
 use crate::plain::recovery::{
     full_ticks, Counters, Generator, Marks, Milliseconds, Setup, State, Ticks, Verdict, INDIVIDUAL,
     MATCH, SEQUENCE, VECTOR,
 };
-use crate::words::{self, HEADER, STATE};
+use crate::words::{self, HEADER, HEADER_WITH_ID, STATE};
 use crate::{guarded, plain};
 use ahozurime::recovery as safe;
 use ahozurime::{Refusal, TicksPerSecond};
@@ -62,27 +63,50 @@ fn same_writes(
     said
 }
 
-// Frames.
+// Frames. A call without an encoding in its name is for the R-TAG.
 
 pub fn read(frame: &[u8]) -> Result<Header, u8> {
-    read_into(frame, &[u64::MAX; HEADER])
+    read_in(Encoding::RTag, frame)
 }
 
 /// With any number of words lent to the raw call.
 pub fn read_into(frame: &[u8], lent: &[u64]) -> Result<Header, u8> {
-    let said = plain::frame::read(frame);
-    let package = ahozurime::frame::read(frame).map(|header| Header {
+    read_in_into(Encoding::RTag, frame, lent)
+}
+
+pub fn read_in(encoding: Encoding, frame: &[u8]) -> Result<Header, u8> {
+    match encoding {
+        Encoding::RTag => read_in_into(encoding, frame, &[u64::MAX; HEADER]),
+        Encoding::Hsr | Encoding::Prp => read_in_into(encoding, frame, &[u64::MAX; HEADER_WITH_ID]),
+    }
+}
+
+/// With any number of words lent to the raw call.
+pub fn read_in_into(encoding: Encoding, frame: &[u8], lent: &[u64]) -> Result<Header, u8> {
+    let said = plain::frame::read_in(encoding, frame);
+    let expected = match encoding {
+        Encoding::RTag => worded(said.map(|header| words::of_header(&header)), lent),
+        Encoding::Hsr | Encoding::Prp => {
+            worded(said.map(|header| words::of_header_with_id(&header)), lent)
+        }
+    };
+    assert_eq!(guarded::read(encoding, frame, lent), expected, "{encoding:?} {frame:02X?}");
+    let package = match encoding {
+        Encoding::RTag => ahozurime::frame::read(frame),
+        Encoding::Hsr => ahozurime::frame::read_hsr(frame),
+        Encoding::Prp => ahozurime::frame::read_prp(frame),
+    };
+    let package = package.map(|header| Header {
         destination: header.destination,
         source: header.source,
         has_c_tag: header.tagged,
         vlan: header.vlan,
         number: header.number,
+        path_id: header.path_id,
         ethertype: header.ethertype,
         payload_at: header.payload_at,
     });
-    assert_eq!(package.map_err(Refusal::number), said, "{frame:02X?}");
-    let expected = worded(said.map(|header| words::of_header(&header)), lent);
-    assert_eq!(guarded::read(frame, lent), expected, "{frame:02X?}");
+    assert_eq!(package.map_err(Refusal::number), said, "{encoding:?} {frame:02X?}");
     said
 }
 
@@ -92,22 +116,40 @@ pub fn payload(frame: &[u8]) -> &[u8] {
 }
 
 pub fn insert(frame: &[u8], number: u16, out: &mut [u8]) -> Length {
+    insert_in(Encoding::RTag, frame, number, 0, out)
+}
+
+/// The R-TAG has no id: that of its calls here is for the plain version alone, which refuses one over
+/// 15 in every encoding.
+pub fn insert_in(encoding: Encoding, frame: &[u8], number: u16, id: u8, out: &mut [u8]) -> Length {
     same_writes(
         frame,
         out,
-        |out| plain::frame::insert(frame, number, out),
-        |out| ahozurime::frame::insert(frame, number, out),
-        |out, length| guarded::insert(frame, number, out, length),
+        |out| plain::frame::insert_in(encoding, frame, number, id, out),
+        |out| match encoding {
+            Encoding::RTag => ahozurime::frame::insert(frame, number, out),
+            Encoding::Hsr => ahozurime::frame::insert_hsr(frame, number, id, out),
+            Encoding::Prp => ahozurime::frame::insert_prp(frame, number, id, out),
+        },
+        |out, length| guarded::insert(encoding, frame, number, id, out, length),
     )
 }
 
 pub fn remove(frame: &[u8], out: &mut [u8]) -> Length {
+    remove_in(Encoding::RTag, frame, out)
+}
+
+pub fn remove_in(encoding: Encoding, frame: &[u8], out: &mut [u8]) -> Length {
     same_writes(
         frame,
         out,
-        |out| plain::frame::remove(frame, out),
-        |out| ahozurime::frame::remove(frame, out),
-        |out, length| guarded::remove(frame, out, length),
+        |out| plain::frame::remove_in(encoding, frame, out),
+        |out| match encoding {
+            Encoding::RTag => ahozurime::frame::remove(frame, out),
+            Encoding::Hsr => ahozurime::frame::remove_hsr(frame, out),
+            Encoding::Prp => ahozurime::frame::remove_prp(frame, out),
+        },
+        |out, length| guarded::remove(encoding, frame, out, length),
     )
 }
 

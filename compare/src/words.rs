@@ -5,6 +5,8 @@ use crate::plain::frame::Header;
 use crate::plain::recovery::{Counters, Setup, State};
 
 pub const HEADER: usize = 8;
+/// With a path or LAN id, which comes last.
+pub const HEADER_WITH_ID: usize = 9;
 pub const STATE: usize = 31;
 
 /// "AHZ" and 4.
@@ -34,6 +36,12 @@ pub fn of_header(header: &Header) -> [u64; HEADER] {
         header.ethertype.into(),
         header.payload_at as u64,
     ]
+}
+
+pub fn of_header_with_id(header: &Header) -> [u64; HEADER_WITH_ID] {
+    let mut words = [header.path_id.into(); HEADER_WITH_ID];
+    words[..HEADER].copy_from_slice(&of_header(header));
+    words
 }
 
 pub fn of_state(state: &State) -> [u64; STATE] {

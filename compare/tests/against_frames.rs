@@ -6,24 +6,35 @@ mod common;
 use common::report;
 use compare::guarded;
 use compare::layers::{insert, payload, read, read_into, remove};
+use compare::plain::encoding::Encoding;
 use compare::random::{Random, SEED};
 
-/// What may stand between the addresses and the payload: every order of the two tags, good or
-/// not, and VLAN ids at the bound.
-const LAYOUTS: [&[u8]; 12] = [
+/// What may stand between the addresses and the payload: every order of the tags, good or not, and
+/// VLAN ids at the bound.
+const LAYOUTS: [&[u8]; 19] = [
     &[0x08, 0x00],
     &[0x81, 0x00, 0x20, 0x05, 0x08, 0x00],
     &[0xF1, 0xC1, 0, 0, 0x01, 0x02, 0x08, 0x00],
     &[0xF1, 0xC1, 0xAB, 0xCD, 0xFF, 0xFF, 0x88, 0xF7],
     &[0x81, 0x00, 0xE0, 0x00, 0xF1, 0xC1, 0, 0, 0x80, 0x00, 0x08, 0x00],
     &[0x81, 0x00, 0x0F, 0xFE, 0xF1, 0xC1, 1, 0, 0, 0, 0, 46],
+    &[0x89, 0x2F, 0xA0, 0x0A, 0x01, 0x02, 0x08, 0x00],
+    &[0x81, 0x00, 0x20, 0x05, 0x89, 0x2F, 0x00, 0x06, 0xFF, 0xFF, 0x88, 0xF7],
     &[0x81, 0x00, 0x0F, 0xFF, 0x08, 0x00],
     &[0x81, 0x00, 0x00, 0x01, 0x81, 0x00, 0x00, 0x01, 0x08, 0x00],
     &[0xF1, 0xC1, 0, 0, 0, 1, 0x81, 0x00, 0x00, 0x01, 0x08, 0x00],
     &[0xF1, 0xC1, 0, 0, 0, 1, 0xF1, 0xC1, 0, 0, 0, 1, 0x08, 0x00],
     &[0x81, 0x00, 0, 1, 0xF1, 0xC1, 0, 0, 0, 1, 0x81, 0x00, 0, 1, 0x08, 0x00],
     &[0x81, 0x00, 0xFF, 0xFF, 0x81, 0x00, 0xFF, 0xFF],
+    &[0xF1, 0xC1, 0, 0, 0, 1, 0x89, 0x2F, 0, 6, 0, 1, 0x08, 0x00],
+    &[0x89, 0x2F, 0, 6, 0, 1, 0xF1, 0xC1, 0, 0, 0, 1, 0x08, 0x00],
+    &[0x89, 0x2F, 0, 6, 0, 1, 0x89, 0x2F, 0, 6, 0, 1, 0x08, 0x00],
+    &[0x89, 0x2F, 0, 6, 0, 1, 0x81, 0x00, 0x00, 0x01, 0x08, 0x00],
+    &[0x81, 0x00, 0, 1, 0x89, 0x2F, 0, 6, 0, 1, 0x81, 0x00, 0, 1, 0x08, 0x00],
 ];
+
+/// How many of them are good.
+const GOOD: usize = 8;
 
 /// A frame of that length. Its addresses are any, or all zeros, or all ones.
 fn laid_out(random: &mut Random, layout: &[u8], length: usize) -> Vec<u8> {
@@ -122,10 +133,10 @@ fn the_words_of_a_header() {
     frame.extend([0x81, 0x00, 0xEF, 0xFE, 0xF1, 0xC1, 0x12, 0x34, 0xAB, 0xCD, 0x88, 0xB5, 1]);
     let (destination, source) = (0x0203_0405_0607, 0xFFFE_FDFC_FBFA);
     let header = vec![destination, source, 1, 4_094, 1, 0xABCD, 0x88B5, 24];
-    assert_eq!(guarded::read(&frame, &[u64::MAX; 8]), (0, header));
+    assert_eq!(guarded::read(Encoding::RTag, &frame, &[u64::MAX; 8]), (0, header));
     frame.drain(12..22);
     let header = vec![destination, source, 0, 0, 0, 0, 0x88B5, 14];
-    assert_eq!(guarded::read(&frame, &[u64::MAX; 8]), (0, header));
+    assert_eq!(guarded::read(Encoding::RTag, &frame, &[u64::MAX; 8]), (0, header));
 }
 
 /// Every type, control value and number that may stand in a header, where each may stand.
@@ -133,13 +144,15 @@ fn the_words_of_a_header() {
 fn every_value_of_sixteen_bits() {
     let mut random = Random::new(SEED);
     let mut cases = 0;
-    let places: [(&[u8], usize); 6] = [
+    let places: [(&[u8], usize); 8] = [
         (LAYOUTS[0], 12), // the type
         (LAYOUTS[1], 14), // a C-TAG's control value
         (LAYOUTS[1], 16), // the type behind it
         (LAYOUTS[2], 16), // an R-TAG's number
         (LAYOUTS[2], 18), // the type behind it
         (LAYOUTS[4], 22), // the type behind both
+        (LAYOUTS[6], 18), // the type behind an HSR tag
+        (LAYOUTS[7], 22), // the type behind a C-TAG and an HSR tag
     ];
     for (layout, at) in places {
         let mut frame = laid_out(&mut random, layout, 30);
@@ -162,7 +175,7 @@ fn every_value_of_sixteen_bits() {
 fn every_damage_of_one_octet() {
     let mut random = Random::new(SEED);
     let mut cases = 0;
-    for layout in &LAYOUTS[..6] {
+    for layout in &LAYOUTS[..GOOD] {
         let good = laid_out(&mut random, layout, 40);
         assert!(read(&good).is_ok());
         for at in 0..good.len() {
@@ -188,7 +201,7 @@ fn random_frames() {
         for _ in 0..random.below(3) {
             let at = random.below(30) as usize;
             if at < length {
-                frame[at] = random.pick(&[0x81, 0x00, 0xF1, 0xC1, 0x0F, 0xFF, 0x08]);
+                frame[at] = random.pick(&[0x81, 0x00, 0xF1, 0xC1, 0x89, 0x2F, 0x0F, 0xFF]);
             }
         }
         cases += same(&mut random, &frame);

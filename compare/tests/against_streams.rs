@@ -33,9 +33,10 @@ fn frame(random: &mut Random, refusal: u8) -> Vec<u8> {
         frame.extend([0x81, 0x00]);
         frame.extend((vlan | random.number() << 12).to_be_bytes());
     }
+    // An R-TAG or an HSR tag.
     let numbered = random.once_in(4);
     if numbered {
-        frame.extend([0xF1, 0xC1, 0, 0, 0, 9]);
+        frame.extend(random.pick(&[[0xF1, 0xC1, 0, 0, 0, 9], [0x89, 0x2F, 0xA0, 6, 0, 9]]));
     }
     match refusal {
         1 => frame.truncate(random.below(14) as usize),
@@ -47,16 +48,26 @@ fn frame(random: &mut Random, refusal: u8) -> Vec<u8> {
         // A tag behind which the type is cut, or is not there.
         3 => {
             let tag: &[u8] = match (tagged, numbered) {
-                (_, false) => random.pick(&[&[0xF1, 0xC1], &[0xF1, 0xC1, 0, 0, 0, 1, 0x08]]),
+                (_, false) => random.pick(&[
+                    &[0xF1, 0xC1],
+                    &[0xF1, 0xC1, 0, 0, 0, 1, 0x08],
+                    &[0x89, 0x2F],
+                    &[0x89, 0x2F, 0, 0, 0, 1, 0x08],
+                ]),
                 _ => &[0x08],
             };
             frame.extend(tag);
         }
         4 => {
             let no_type: &[u8] = match (tagged, numbered) {
-                (_, true) => random.pick(&[&[0x81, 0x00], &[0xF1, 0xC1]]),
+                (_, true) => random.pick(&[&[0x81, 0x00], &[0xF1, 0xC1], &[0x89, 0x2F]]),
                 (true, false) => &[0x81, 0x00],
-                (false, false) => &[0xF1, 0xC1, 0, 0, 0, 1, 0x81, 0x00],
+                (false, false) => random.pick(&[
+                    &[0xF1, 0xC1, 0, 0, 0, 1, 0x81, 0x00],
+                    &[0xF1, 0xC1, 0, 0, 0, 1, 0x89, 0x2F],
+                    &[0x89, 0x2F, 0, 0, 0, 1, 0x81, 0x00],
+                    &[0x89, 0x2F, 0, 0, 0, 1, 0xF1, 0xC1],
+                ]),
             };
             frame.extend(no_type);
             frame.extend([0; 10]);

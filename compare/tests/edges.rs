@@ -1,8 +1,9 @@
-//! "Both sides of each edge", case for case and in the paper's order, asked of every version.
+//! "Both sides of each edge", case for case and in the paper's order, asked of every version; and those
+//! of the requests since.
 
 use ahozurime_sys::{AHZ_DISCARD, AHZ_PASS};
-use compare::layers::{self, insert, payload, read, remove, Event, Kept, USES};
-use compare::plain::frame::r_tag;
+use compare::layers::{self, insert_in, payload, read_in, remove_in, Event, Kept, USES};
+use compare::plain::encoding::Encoding;
 use compare::plain::recovery::{Milliseconds, Setup, Ticks, MATCH, VECTOR};
 
 /// What one packet's answer is and what it adds to discarded, order and rogue.
@@ -137,16 +138,24 @@ fn match_compares_with_the_last_only() {
     one(MATCH, 4, &[5], 5, REPEAT);
 }
 
+/// And of id 10 with a payload of four octets, which the R-TAG says nothing of.
 #[test]
-fn the_tag_of_258() {
-    assert_eq!(r_tag(258), [0xF1, 0xC1, 0, 0, 1, 2]);
-    let mut out = [0xEE; 20];
-    assert_eq!(insert(&framed(&[], 14), 258, &mut out), Ok(20));
-    assert_eq!(out[12..18], [0xF1, 0xC1, 0, 0, 1, 2]);
+fn the_octets_of_258() {
+    let frame = framed(&[], 18);
+    for (encoding, octets, at) in [
+        (Encoding::RTag, [0xF1, 0xC1, 0, 0, 1, 2], 12),
+        (Encoding::Hsr, [0x89, 0x2F, 0xA0, 0x0A, 1, 2], 12),
+        (Encoding::Prp, [1, 2, 0xA0, 0x0A, 0x88, 0xFB], 18),
+    ] {
+        assert_eq!(encoding.octets(258, 10, 10), octets);
+        let mut out = [0xEE; 24];
+        assert_eq!(insert_in(encoding, &frame, 258, 10, &mut out), Ok(24));
+        assert_eq!(out[at..at + 6], octets, "{encoding:?}");
+    }
 }
 
-/// Frames of a length whose type is 0800 where they have one: bare, with a C-TAG, with an R-TAG,
-/// with both. Cutting the last one short may cut a tag.
+/// Frames of a length whose type is 0800 where they have one: bare, with a C-TAG, with either other
+/// tag, with both. Cutting one short may cut a tag.
 fn framed(tags: &[u8], length: usize) -> Vec<u8> {
     let mut frame = vec![2; 12];
     frame.extend_from_slice(tags);
@@ -157,16 +166,19 @@ fn framed(tags: &[u8], length: usize) -> Vec<u8> {
 
 const C: [u8; 4] = [0x81, 0, 0, 5];
 const R: [u8; 6] = [0xF1, 0xC1, 0, 0, 1, 2];
-const BOTH: [u8; 10] = [0x81, 0, 0, 5, 0xF1, 0xC1, 0, 0, 1, 2];
+const HSR: [u8; 6] = [0x89, 0x2F, 0xA0, 6, 1, 2];
+const C_AND_R: [u8; 10] = [0x81, 0, 0, 5, 0xF1, 0xC1, 0, 0, 1, 2];
+const C_AND_HSR: [u8; 10] = [0x81, 0, 0, 5, 0x89, 0x2F, 0xA0, 6, 1, 2];
 
-/// The refusal below an edge and the payload's start above it.
+/// The refusal below an edge and the payload's start above it, to a stream of any encoding.
 fn edge(tags: &[u8], below: usize, refusal: u8) {
-    let short = framed(tags, below);
-    assert_eq!(read(&short), Err(refusal), "{below} octets");
+    let (short, whole) = (framed(tags, below), framed(tags, below + 1));
+    for encoding in Encoding::ALL {
+        assert_eq!(read_in(encoding, &short), Err(refusal), "{below} octets");
+        let header = read_in(encoding, &whole).expect("a frame that is just long enough");
+        assert_eq!((header.payload_at, header.ethertype), (below + 1, 0x0800));
+    }
     assert!(payload(&short).is_empty());
-    let whole = framed(tags, below + 1);
-    let header = read(&whole).expect("a frame that is just long enough");
-    assert_eq!((header.payload_at, header.ethertype), (below + 1, 0x0800));
     assert!(payload(&whole).is_empty());
 }
 
@@ -175,31 +187,74 @@ fn shortest_frames() {
     edge(&[], 13, 1);
     edge(&C, 17, 3);
     edge(&R, 19, 3);
-    edge(&BOTH, 23, 3);
+    edge(&HSR, 19, 3);
+    edge(&C_AND_R, 23, 3);
+    edge(&C_AND_HSR, 23, 3);
 }
 
 #[test]
 fn longest_frames() {
-    for tags in [&[][..], &C, &R, &BOTH] {
+    for tags in [&[][..], &C, &R, &HSR, &C_AND_R, &C_AND_HSR] {
         let frame = framed(tags, 1_523);
-        assert_eq!(read(&frame), Err(2));
+        for encoding in Encoding::ALL {
+            assert_eq!(read_in(encoding, &frame), Err(2));
+            assert!(read_in(encoding, &frame[..1_522]).is_ok());
+        }
         assert!(payload(&frame).is_empty());
         assert_eq!(payload(&frame[..1_522]).len(), 1_522 - 14 - tags.len());
     }
 }
 
-/// Insertion into 1,516 and 1,517 octets, and back.
+/// Insertion into 1,516 and 1,517 octets, and back, in every encoding; under PRP also behind a tag.
 #[test]
 fn longest_insertion() {
-    for tags in [&[][..], &C] {
-        let mut out = [0xEE; 1_600];
-        assert_eq!(insert(&framed(tags, 1_517), 258, &mut out), Err(7));
-        assert_eq!(out, [0xEE; 1_600]);
-        assert_eq!(insert(&framed(tags, 1_516), 258, &mut out), Ok(1_522));
-        assert_eq!(read(&out[..1_522]).map(|header| header.number), Ok(Some(258)));
-        assert!(out[1_522..].iter().all(|&octet| octet == 0xEE));
-        let mut back = [0; 1_516];
-        assert_eq!(remove(&out[..1_522], &mut back), Ok(1_516));
-        assert_eq!(back[..], framed(tags, 1_516));
+    for tags in [&[][..], &C, &R, &HSR, &C_AND_R, &C_AND_HSR] {
+        for encoding in Encoding::ALL {
+            if tags.len() > 4 && encoding != Encoding::Prp {
+                continue;
+            }
+            let mut out = [0xEE; 1_600];
+            assert_eq!(insert_in(encoding, &framed(tags, 1_517), 258, 9, &mut out), Err(7));
+            assert_eq!(out, [0xEE; 1_600]);
+            assert_eq!(insert_in(encoding, &framed(tags, 1_516), 258, 9, &mut out), Ok(1_522));
+            let header = read_in(encoding, &out[..1_522]);
+            assert_eq!(header.map(|header| header.number), Ok(Some(258)));
+            assert!(out[1_522..].iter().all(|&octet| octet == 0xEE));
+            let mut back = [0; 1_516];
+            assert_eq!(remove_in(encoding, &out[..1_522], &mut back), Ok(1_516));
+            assert_eq!(back[..], framed(tags, 1_516));
+        }
+    }
+}
+
+/// Ids 15 and 16.
+#[test]
+fn highest_id() {
+    for encoding in [Encoding::Hsr, Encoding::Prp] {
+        let frame = framed(&[], 20);
+        let mut out = [0xEE; 26];
+        assert_eq!(insert_in(encoding, &frame, 258, 16, &mut out), Err(37));
+        assert_eq!(out, [0xEE; 26]);
+        assert_eq!(insert_in(encoding, &frame, 258, 15, &mut out), Ok(26));
+        assert_eq!(read_in(encoding, &out).map(|header| header.path_id), Ok(15));
+    }
+}
+
+/// Payloads of 5 and 6 octets, and sizes of one less, of the payload's own and of one more.
+#[test]
+fn shortest_trailer() {
+    for tags in [&[][..], &C, &R, &HSR] {
+        let head = framed(tags, 14 + tags.len());
+        for (length, size, number) in
+            [(5, 5, None), (5, 6, None), (6, 5, None), (6, 6, Some(258)), (6, 7, None)]
+        {
+            let trailer = [1, 2, 0xA0, size, 0x88, 0xFB];
+            let frame = [&head[..], &trailer[6 - length..]].concat();
+            let header = read_in(Encoding::Prp, &frame).expect("a good frame");
+            let id = if number.is_some() { 10 } else { 0 };
+            assert_eq!((header.number, header.path_id), (number, id), "{length} and {size}");
+            let removed = if number.is_some() { Ok(head.len()) } else { Err(9) };
+            assert_eq!(remove_in(Encoding::Prp, &frame, &mut [0; 40]), removed);
+        }
     }
 }

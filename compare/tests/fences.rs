@@ -7,6 +7,7 @@
 use compare::guarded::{within, Fence};
 use compare::layers::*;
 use compare::plain::cards::Calibration;
+use compare::plain::encoding::Encoding;
 use compare::plain::fcs;
 use compare::plain::recovery::{Milliseconds, Setup, State, INDIVIDUAL, MATCH, SEQUENCE, VECTOR};
 
@@ -15,18 +16,30 @@ fn fenced(calls: impl Fn()) {
     within(Fence::Behind, &calls);
 }
 
-/// Frames without a tag, with either and with both, and with bad ones; and behind the type, cards.
+/// Frames without a tag, with any and with two, and with bad ones; and behind the type, cards.
 fn frames() -> Vec<Vec<u8>> {
-    let tags: [&[u8]; 6] = [
+    let tags: [&[u8]; 9] = [
         &[],
         &[0x81, 0, 0, 5],
         &[0xF1, 0xC1, 0, 0, 0, 1],
         &[0x81, 0, 0, 5, 0xF1, 0xC1, 0, 0, 0, 1],
+        &[0x89, 0x2F, 0xA0, 18, 0, 1],
+        &[0x81, 0, 0, 5, 0x89, 0x2F, 0xA0, 18, 0, 1],
         &[0x81, 0, 0x0F, 0xFF],
         &[0xF1, 0xC1, 0, 0, 0, 1, 0xF1, 0xC1],
+        &[0x89, 0x2F, 0xA0, 18, 0, 1, 0x89, 0x2F],
     ];
     let behind = [8, 0, 0x11, 0, 1, 0x10, 0, 0, 0, 1, 0x12, 3, 4, 0];
     tags.map(|tags| [&[2; 12], tags, &behind].concat()).to_vec()
+}
+
+/// The same with a trailer behind the cards, and one that is all of its payload.
+fn frames_with_trailers() -> Vec<Vec<u8>> {
+    let trailer = |size| [0, 1, 0xA0, size, 0x88, 0xFB];
+    let mut frames = frames();
+    frames.iter_mut().for_each(|frame| frame.extend(trailer(18)));
+    frames.push([&[2; 12][..], &[8, 0], &trailer(6)].concat());
+    frames
 }
 
 /// Every cut of some octets, and longer ones.
@@ -55,6 +68,29 @@ fn calls_on_frames() {
                 {
                     let _ = insert(frame, 9, &mut vec![7; room]);
                     let _ = remove(frame, &mut vec![7; room]);
+                }
+            });
+        }
+    });
+}
+
+/// The same of an HSR and of a PRP stream, with trailers too; ids good and refused.
+#[test]
+fn calls_on_hsr_and_prp() {
+    fenced(|| {
+        for whole in frames_with_trailers() {
+            lengths(&whole, &[1_516, 1_517, 1_522, 1_523, 65_536], |frame| {
+                let (less, more) = (frame.len().saturating_sub(6), frame.len() + 6);
+                for encoding in [Encoding::Hsr, Encoding::Prp] {
+                    for words in [0, 8, 9, 10] {
+                        let _ = read_in_into(encoding, frame, &vec![7; words]);
+                    }
+                    for (room, id) in [(0, 10), (more - 1, 10), (more, 10), (more, 16)] {
+                        let _ = insert_in(encoding, frame, 9, id, &mut vec![7; room]);
+                    }
+                    for room in [0, less.saturating_sub(1), less] {
+                        let _ = remove_in(encoding, frame, &mut vec![7; room]);
+                    }
                 }
             });
         }

@@ -4,7 +4,8 @@
 mod common;
 
 use common::report;
-use compare::layers::{insert, payload, read, remove};
+use compare::layers::{insert, payload, read, read_in, remove};
+use compare::plain::encoding::Encoding;
 use compare::plain::frame::Header;
 use compare::random::{Random, SEED};
 
@@ -60,6 +61,7 @@ impl Fields {
             has_c_tag: self.c_tag.is_some(),
             vlan: self.c_tag.map_or(0, |tci| tci % 4_096),
             number: self.r_tag.map(|(_, number)| number),
+            path_id: 0,
             ethertype: self.ethertype,
             payload_at: self.header_length(),
         }
@@ -106,10 +108,10 @@ fn after_addresses(octets: &[u8]) -> Vec<u8> {
     frame
 }
 
-/// At a C-TAG 3, 5, 4; at an R-TAG 3, 4.
+/// At a C-TAG 3, 5, 4; at an R-TAG or an HSR tag 3, 4.
 #[test]
 fn checks_stand_in_the_papers_order() {
-    let cases: [(&[u8], u8); 14] = [
+    let cases: [(&[u8], u8); 27] = [
         (&[0x81, 0x00], 3),
         (&[0x81, 0x00, 0x0F, 0xFF, 0x81], 3),
         (&[0x81, 0x00, 0x0F, 0xFF, 0x81, 0x00], 5),
@@ -124,9 +126,25 @@ fn checks_stand_in_the_papers_order() {
         (&[0xF1, 0xC1, 0, 0, 0, 0, 0x81], 3),
         (&[0xF1, 0xC1, 0, 0, 0, 0, 0x81, 0x00], 4),
         (&[0xF1, 0xC1, 0, 0, 0, 0, 0xF1, 0xC1], 4),
+        (&[0xF1, 0xC1, 0, 0, 0, 0, 0x89, 0x2F], 4),
+        (&[0x81, 0x00, 0x0F, 0xFF, 0x89, 0x2F], 5),
+        (&[0x81, 0x00, 0x00, 0x05, 0x89, 0x2F], 3),
+        (&[0x81, 0x00, 0x00, 0x05, 0x89, 0x2F, 0, 6, 0, 0, 0x89], 3),
+        (&[0x81, 0x00, 0x00, 0x05, 0x89, 0x2F, 0, 6, 0, 0, 0x81, 0x00], 4),
+        (&[0x81, 0x00, 0x00, 0x05, 0x89, 0x2F, 0, 6, 0, 0, 0xF1, 0xC1], 4),
+        (&[0x81, 0x00, 0x00, 0x05, 0x89, 0x2F, 0, 6, 0, 0, 0x89, 0x2F], 4),
+        (&[0x81, 0x00, 0x00, 0x05, 0xF1, 0xC1, 0, 0, 0, 0, 0x89, 0x2F], 4),
+        (&[0x89, 0x2F], 3),
+        (&[0x89, 0x2F, 0, 6, 0, 0, 0x08], 3),
+        (&[0x89, 0x2F, 0, 6, 0, 0, 0x81, 0x00], 4),
+        (&[0x89, 0x2F, 0, 6, 0, 0, 0xF1, 0xC1], 4),
+        (&[0x89, 0x2F, 0, 6, 0, 0, 0x89, 0x2F], 4),
     ];
     for (octets, refusal) in cases {
-        assert_eq!(read(&after_addresses(octets)), Err(refusal), "{octets:02X?}");
+        for encoding in Encoding::ALL {
+            let answer = read_in(encoding, &after_addresses(octets));
+            assert_eq!(answer, Err(refusal), "{encoding:?} {octets:02X?}");
+        }
     }
     // Priority and the drop bit are no part of the VLAN id, and 4,094 is one.
     let header = read(&after_addresses(&[0x81, 0x00, 0xFF, 0xFE, 0x08, 0x00])).unwrap();

@@ -4,7 +4,8 @@
 mod common;
 
 use common::report;
-use compare::layers::{check_table, insert, lookup};
+use compare::layers::{check_table, insert_in, lookup, remove_in};
+use compare::plain::encoding::Encoding;
 use compare::random::{Random, SEED};
 
 #[derive(Clone, Copy, Debug)]
@@ -164,7 +165,8 @@ fn fits(entry: &Entry, destination: [u8; 6], source: [u8; 6], vlan: Option<u16>)
         && (entry.vlan == 0 || entry.vlan == frames)
 }
 
-/// The first entry that fits gives the handle, with an R-TAG in the frame or without.
+/// The first entry that fits gives the handle, with a number in the frame or without: in whichever
+/// encoding it is put in, and when it is taken off again.
 #[test]
 fn the_first_match_decides() {
     let mut random = Random::new(SEED);
@@ -193,14 +195,16 @@ fn the_first_match_decides() {
             let found = entries.iter().find(|entry| fits(entry, destination, source, vlan));
             let expected = found.map(|entry| entry.handle);
             assert_eq!(lookup(&octets, &frame), Ok(expected));
-            // A tag put in does not change the stream.
-            let mut tagged = [0; 64];
-            let length = insert(&frame, random.number(), &mut tagged).unwrap();
-            assert_eq!(lookup(&octets, &tagged[..length]), Ok(expected));
-            cases += 2;
+            let encoding = random.pick(&Encoding::ALL);
+            let (mut put_in, mut taken_off) = ([0; 64], [0; 64]);
+            let length = insert_in(encoding, &frame, random.number(), 10, &mut put_in).unwrap();
+            assert_eq!(lookup(&octets, &put_in[..length]), Ok(expected), "{encoding:?}");
+            let length = remove_in(encoding, &put_in[..length], &mut taken_off).unwrap();
+            assert_eq!(lookup(&octets, &taken_off[..length]), Ok(expected), "{encoding:?}");
+            cases += 3;
             streams += u64::from(expected.is_some());
         }
     }
-    assert!(streams > cases / 8 && streams < cases / 2, "both answers were wanted: {streams}");
+    assert!(streams > cases / 12 && streams < cases / 3, "both answers were wanted: {streams}");
     report("lookups", cases);
 }

@@ -6,8 +6,8 @@
 #define HOLDS(what) typedef char NAMED(__LINE__)[(what) ? 1 : -1]
 
 /* The version, as the preprocessor sees it too. */
-#if AHZ_VERSION != 262145 || AHZ_VERSION_MAJOR != 4 || AHZ_VERSION_MINOR != 1
-#error "the version is not 4.1"
+#if AHZ_VERSION != 327680 || AHZ_VERSION_MAJOR != 5 || AHZ_VERSION_MINOR != 0
+#error "the version is not 5.0"
 #endif
 
 /* When the layer says no. */
@@ -15,7 +15,7 @@ HOLDS(AHZ_R_FRAME_SHORT == 1 && AHZ_R_FRAME_LONG == 2 && AHZ_R_TAG_CUT == 3 && A
 HOLDS(AHZ_R_TAG_THERE == 6 && AHZ_R_NO_TAG == 9 && AHZ_R_RESULT_LONG == 7 && AHZ_R_OUTPUT_SHORT == 8);
 HOLDS(AHZ_R_ENTRY_KIND == 10 && AHZ_R_ENTRY_CUT == 11 && AHZ_R_ENTRY_RANGE == 12 && AHZ_R_ENTRY_257 == 13 && AHZ_R_STATE == 14);
 HOLDS(AHZ_R_RULE == 15 && AHZ_R_HISTORY == 16 && AHZ_R_MILLISECONDS == 17 && AHZ_R_RATE == 18 && AHZ_R_PATHS == 19);
-HOLDS(AHZ_R_TAKEN_OR_USE == 27 && AHZ_R_FCS == 28);
+HOLDS(AHZ_R_TAKEN_OR_USE == 27 && AHZ_R_FCS == 28 && AHZ_R_PATH_ID == 37);
 HOLDS(AHZ_R_CARD_KIND == 20 && AHZ_R_CARD_CUT == 21 && AHZ_R_CALIBRATION == 22);
 HOLDS(AHZ_FAULT_KIND == 23 && AHZ_FAULT_CUT == 24 && AHZ_FAULT_SETUP == 25 && AHZ_FAULT_LONG == 26);
 
@@ -31,6 +31,10 @@ HOLDS(AHZ_FRAME_SHORTEST == 6 + 6 + 2 && AHZ_FRAME_LONGEST == 1522 && AHZ_CTAG_O
 HOLDS(AHZ_TYPE_CTAG == 0x8100 && AHZ_TYPE_RTAG == 0xF1C1 && AHZ_VLAN_LAST == 4094);
 HOLDS(AHZ_H_DESTINATION == 0 && AHZ_H_SOURCE == 1 && AHZ_H_TAGGED == 2 && AHZ_H_VLAN == 3 && AHZ_H_NUMBERED == 4);
 HOLDS(AHZ_H_NUMBER == 5 && AHZ_H_TYPE == 6 && AHZ_H_PAYLOAD == 7 && AHZ_H_WORDS == 8);
+
+/* HSR and PRP: a type or suffix, 4 bits and 12, a number; an id of 4 bits, for which a header has a word more. */
+HOLDS(AHZ_HSR_OCTETS == 2 + 2 + 2 && AHZ_PRP_OCTETS == 2 + 2 + 2 && AHZ_TYPE_HSR == 0x892F && AHZ_SUFFIX_PRP == 0x88FB);
+HOLDS(AHZ_PATH_ID_LAST == 15 && AHZ_H_PATH_ID == 8 && AHZ_H_ID_WORDS == 8 + 1);
 
 /* A frame with its check. */
 HOLDS(AHZ_FCS_OCTETS == 4 && AHZ_FCS_SHORTEST == 14 + 4 && AHZ_FCS_LONGEST == 1522 + 4);
@@ -67,7 +71,7 @@ HOLDS(AHZ_TAPE_STACK == 55296 && AHZ_FCS_STACK == 1536 && AHZ_STACK == 512);
 /* A unit is its number, and a state and a header are their words, so that each can be stored. */
 HOLDS(sizeof(ahz_milliseconds_t) == 4 && sizeof(ahz_rate_t) == 2 && sizeof(ahz_ticks_t) == 8 && sizeof(ahz_volts_t) == 8);
 HOLDS(sizeof(ahz_raw_code_t) == 2 && sizeof(ahz_millivolts_t) == 2 && sizeof(ahz_blocks_t) == 4);
-HOLDS(sizeof(ahz_generator_t) == 2 && sizeof(ahz_state_t) == 31 * 8 && sizeof(ahz_header_t) == 8 * 8 && sizeof(ahz_counters_t) == 9 * 8);
+HOLDS(sizeof(ahz_generator_t) == 2 && sizeof(ahz_state_t) == 31 * 8 && sizeof(ahz_header_t) == 9 * 8 && sizeof(ahz_counters_t) == 9 * 8);
 
 /* A setup that a compiler works out, so that a program may keep it in flash. */
 #define SETUP {AHZ_RULE_MATCH, AHZ_TAKEN, AHZ_USE_INDIVIDUAL, 8, AHZ_MS(AHZ_MILLISECONDS_MOST), AHZ_PER_SECOND(AHZ_RATE_MOST), 2, 1}

@@ -1,6 +1,6 @@
-/* Document 01 as small functions, with document 02's CR 2, the use, CR 4, the longer history, CR 6, the frame check sequence, and CR 7,
- * holes before the first packet. They say what is expected of the layer, are written from the papers, and are slow and plain: bits are
- * counted and divided one by one, and marks are an array. None of them calls the layer. */
+/* Document 01 as small functions, with document 02's CR 2, the use, CR 4, the longer history, CR 5, HSR and PRP, CR 6, the frame check
+ * sequence, and CR 7, holes before the first packet. They say what is expected of the layer, are written from the papers, and are slow and
+ * plain: bits are counted and divided one by one, and marks are an array. None of them calls the layer. */
 #ifndef PAPER_H
 #define PAPER_H
 
@@ -18,15 +18,20 @@ static inline uint32_t big_endian(const uint8_t *octets, size_t count) {
 
 /* ---- Reading a frame ---- */
 
+/* What carries a stream's numbers, "chosen per stream". */
+enum { BY_RTAG, BY_HSR, BY_PRP, ENCODINGS };
+
 typedef struct {
     uint8_t refusal;
-    uint64_t words[8]; /* destination, source, tagged, VLAN, numbered, number, type, start of the payload */
-    size_t tag;        /* where the R-TAG is, or would be */
+    uint64_t words[9]; /* destination, source, tagged, VLAN, numbered, number, type, start of the payload, path or LAN id */
+    size_t tag;        /* where an R-TAG or an HSR tag is, or would be */
+    int tag_there;     /* whether one of them is */
 } PaperFrame;
 
-static inline PaperFrame paper_read(const uint8_t *frame, size_t octets) {
-    PaperFrame got = {0, {0, 0, 0, 0, 0, 0, 0, 0}, 12};
-    size_t at = 12;
+/* "For every stream 892F is now a tag: 3, 4 and 6 cover both, mixed too. Number and 9 go by the stream's own encoding." */
+static inline PaperFrame paper_read(int encoding, const uint8_t *frame, size_t octets) {
+    PaperFrame got = {0, {0, 0, 0, 0, 0, 0, 0, 0, 0}, 12, 0};
+    size_t at = 12, payload;
     if (octets < 14) got.refusal = 1;
     else if (octets > 1522) got.refusal = 2;
     if (got.refusal != 0) return got;
@@ -42,17 +47,65 @@ static inline PaperFrame paper_read(const uint8_t *frame, size_t octets) {
         at += 4;
     }
     got.tag = at;
-    if (big_endian(frame + at, 2) == 0xF1C1) {
+    got.tag_there = big_endian(frame + at, 2) == 0xF1C1 || big_endian(frame + at, 2) == 0x892F;
+    if (got.tag_there) {
+        const uint32_t type = big_endian(frame + at, 2), next = octets < at + 6 + 2 ? 0 : big_endian(frame + at + 6, 2);
         if (octets < at + 6 + 2) got.refusal = 3;
-        else if (big_endian(frame + at + 6, 2) == 0x8100 || big_endian(frame + at + 6, 2) == 0xF1C1) got.refusal = 4;
+        else if (next == 0x8100 || next == 0xF1C1 || next == 0x892F) got.refusal = 4;
         if (got.refusal != 0) return got;
-        got.words[4] = 1;
-        got.words[5] = big_endian(frame + at + 4, 2);
+        got.words[4] = (encoding == BY_RTAG && type == 0xF1C1) || (encoding == BY_HSR && type == 0x892F);
+        if (got.words[4] == 1) got.words[5] = big_endian(frame + at + 4, 2);
+        if (got.words[4] == 1 && encoding == BY_HSR) got.words[8] = big_endian(frame + at + 2, 2) / 4096;
         at += 6;
     }
     got.words[6] = big_endian(frame + at, 2);
     got.words[7] = at + 2;
+    payload = octets - at - 2;
+    /* "A PRP payload under 6 octets, of another size or without the suffix is a packet without a number." */
+    if (encoding == BY_PRP && payload >= 6 && big_endian(frame + octets - 4, 2) % 4096 == payload &&
+        big_endian(frame + octets - 2, 2) == 0x88FB) {
+        got.words[4] = 1;
+        got.words[5] = big_endian(frame + octets - 6, 2);
+        got.words[8] = big_endian(frame + octets - 4, 2) / 4096;
+    }
     return got;
+}
+
+/* "Reserved octets are written zero"; "the HSR tag (892F, path id 4 bits, size 12, number 16 ..) and the PRP trailer (number 16, LAN id 4,
+ * size 12, 88FB ..)". */
+static inline void paper_six(int encoding, unsigned number, unsigned id, size_t size, uint8_t *six) {
+    const size_t first = encoding == BY_RTAG ? 0xF1C1 : encoding == BY_HSR ? 0x892F : number;
+    const size_t second = encoding == BY_RTAG ? 0 : id * 4096 + size;
+    const size_t third = encoding == BY_PRP ? 0x88FB : number;
+    const size_t words[] = {first, second, third};
+    size_t i;
+    for (i = 0; i < 6; i++) six[i] = (uint8_t)(i % 2 == 0 ? words[i / 2] / 256 : words[i / 2] % 256);
+}
+
+/* 0 and the frame with its number in out, or the refusal, but for 8. An R-TAG has no id. */
+static inline uint8_t paper_insert(int encoding, const uint8_t *frame, size_t octets, unsigned number, unsigned id, uint8_t *out) {
+    const PaperFrame got = paper_read(encoding, frame, octets);
+    const size_t at = encoding == BY_PRP ? octets : got.tag;
+    if (got.refusal != 0) return got.refusal;
+    if (encoding != BY_RTAG && id > 15) return 37;
+    if (encoding != BY_PRP && got.tag_there) return 6;
+    if (octets + 6 > 1522) return 7;
+    memcpy(out, frame, at);
+    /* "Size counts the octets after the last type, the six added ones included." */
+    paper_six(encoding, number, id, octets - (size_t)got.words[7] + 6, out + at);
+    memcpy(out + at + 6, frame + at, octets - at);
+    return 0;
+}
+
+/* 0 and the frame without its number in out, or the refusal, but for 8. */
+static inline uint8_t paper_remove(int encoding, const uint8_t *frame, size_t octets, uint8_t *out) {
+    const PaperFrame got = paper_read(encoding, frame, octets);
+    const size_t at = encoding == BY_PRP ? octets - 6 : got.tag;
+    if (got.refusal != 0) return got.refusal;
+    if (got.words[4] == 0) return 9;
+    memcpy(out, frame, at);
+    memcpy(out + at, frame + at + 6, octets - at - 6);
+    return 0;
 }
 
 /* ---- The frame check sequence ---- */
@@ -107,7 +160,7 @@ static inline uint8_t paper_check_table(const uint8_t *table, size_t octets) {
 
 static inline uint8_t paper_lookup(const uint8_t *table, size_t table_octets, const uint8_t *frame, size_t octets, uint16_t *handle) {
     const uint8_t bad = paper_check_table(table, table_octets);
-    const PaperFrame got = paper_read(frame, octets);
+    const PaperFrame got = paper_read(BY_RTAG, frame, octets);
     size_t at;
     if (bad != 0) return bad;
     if (got.refusal != 0) return got.refusal;

@@ -42,11 +42,17 @@ static const uint8_t plain[] = {ADDRESSES, 0x88, 0xB5, 0xAA, 0xBB, 0xCC};
 static const uint8_t tagged[] = {ADDRESSES, 0x81, 0x00, 0x20, 0x05, 0x88, 0xB5, 0xAA, 0xBB, 0xCC};
 static const uint8_t numbered[] = {ADDRESSES, 0xF1, 0xC1, 0x00, 0x00, 0x01, 0x02, 0x88, 0xB5, 0xAA, 0xBB, 0xCC};
 static const uint8_t both[] = {ADDRESSES, 0x81, 0x00, 0x20, 0x05, 0xF1, 0xC1, 0x00, 0x00, 0x01, 0x02, 0x88, 0xB5, 0xAA, 0xBB, 0xCC};
+static const uint8_t hsr[] = {ADDRESSES, 0x89, 0x2F, 0xA0, 0x09, 0x01, 0x02, 0x88, 0xB5, 0xAA, 0xBB, 0xCC};
+static const uint8_t tagged_hsr[] = {ADDRESSES, 0x81, 0x00, 0x20, 0x05, 0x89, 0x2F, 0xA0, 0x09, 0x01, 0x02, 0x88, 0xB5, 0xAA, 0xBB, 0xCC};
+static const uint8_t prp[] = {ADDRESSES, 0x88, 0xB5, 0xAA, 0xBB, 0xCC, 0x01, 0x02, 0xA0, 0x09, 0x88, 0xFB};
+static const uint8_t hsr_prp[] = {ADDRESSES, 0x81, 0x00, 0x20, 0x05, 0x89, 0x2F, 0xA0, 0x0F, 0x01, 0x02, 0x88, 0xB5, 0xAA, 0xBB, 0xCC,
+                                  0x01, 0x02, 0xA0, 0x09, 0x88, 0xFB};
 static const struct {
     const uint8_t *octets;
     size_t count;
 } frames[] = {{plain, 0}, {plain, sizeof plain}, {tagged, 17}, {tagged, sizeof tagged}, {numbered, sizeof numbered}, {both, 23},
-              {both, sizeof both}};
+              {both, sizeof both}, {hsr, 19}, {hsr, sizeof hsr}, {tagged_hsr, sizeof tagged_hsr}, {prp, sizeof prp},
+              {prp, sizeof prp - 1}, {hsr_prp, sizeof hsr_prp}};
 enum { FRAMES = sizeof frames / sizeof frames[0] };
 static const uint8_t checked[] = {ADDRESSES, 0x88, 0xB5, 0xAA, 0xBB, 0xCC, 0x34, 0x86, 0x4D, 0x10}; /* plain, with its check */
 static const uint8_t longest[AHZ_FCS_LONGEST + 1] = {ADDRESSES, 0x88, 0xB5};
@@ -59,7 +65,7 @@ static const uint8_t tape[] = {0x0F, 0, 0, 0, 0, 4, 0, 0, 0, 100, 0, 100, 2, 0, 
 static const uint8_t long_tape[] = {0x0F, 0, 0, 0, 2, 0, 0, 0, 0, 100, 0, 100, 2, 0, 0, 0, 1, 1, 0, 10, 1, 1, 0, 1, 0, 200, 1, 2, 0xFF,
                                     1, 1, 1, 1, 2, 0xFE, 1, 0, 0};
 
-static uint64_t state[AHZ_S_WORDS], header[AHZ_H_WORDS];
+static uint64_t state[AHZ_S_WORDS], header[AHZ_H_ID_WORDS];
 static uint8_t out[AHZ_TAPE_OUTPUT];
 static size_t length;
 static uint16_t handle;
@@ -73,14 +79,37 @@ static void version(void) { answer = ahz_version(); }
 static void reading(void) {
     for (i = 0; i < FRAMES; i++) answer = ahz_read(frames[i].octets, frames[i].count, header, AHZ_H_WORDS);
 }
+static void reading_hsr(void) {
+    for (i = 0; i < FRAMES; i++) answer = ahz_read_hsr(frames[i].octets, frames[i].count, header, AHZ_H_ID_WORDS);
+}
+static void reading_prp(void) {
+    for (i = 0; i < FRAMES; i++) answer = ahz_read_prp(frames[i].octets, frames[i].count, header, AHZ_H_ID_WORDS);
+}
 static void part(void) {
     for (i = 0; i < FRAMES; i++) answer = ahz_payload(frames[i].octets, frames[i].count);
 }
 static void insertion(void) {
     for (i = 0; i < FRAMES; i++) answer = ahz_insert(frames[i].octets, frames[i].count, 258, out, sizeof out, &length);
 }
+/* The path and LAN ids go up to 16, which is refused. */
+static void insertion_hsr(void) {
+    for (i = 0; i < 17 * FRAMES; i++) {
+        answer = ahz_insert_hsr(frames[i / 17].octets, frames[i / 17].count, 258, (uint8_t)(i % 17), out, sizeof out, &length);
+    }
+}
+static void insertion_prp(void) {
+    for (i = 0; i < 17 * FRAMES; i++) {
+        answer = ahz_insert_prp(frames[i / 17].octets, frames[i / 17].count, 258, (uint8_t)(i % 17), out, sizeof out, &length);
+    }
+}
 static void removal(void) {
     for (i = 0; i < FRAMES; i++) answer = ahz_remove(frames[i].octets, frames[i].count, out, sizeof out, &length);
+}
+static void removal_hsr(void) {
+    for (i = 0; i < FRAMES; i++) answer = ahz_remove_hsr(frames[i].octets, frames[i].count, out, sizeof out, &length);
+}
+static void removal_prp(void) {
+    for (i = 0; i < FRAMES; i++) answer = ahz_remove_prp(frames[i].octets, frames[i].count, out, sizeof out, &length);
 }
 static void sum(void) {
     for (i = 0; i < LENGTHS; i++) answer = ahz_crc32(out, lengths[i]);
@@ -174,20 +203,23 @@ int main(void) {
         void (*function)(void);
         size_t bound;
     } calls[] = {
-        {"ahz_version", version, AHZ_STACK},         {"ahz_read", reading, AHZ_STACK},
-        {"ahz_payload", part, AHZ_STACK},            {"ahz_insert", insertion, AHZ_STACK},
-        {"ahz_remove", removal, AHZ_STACK},          {"ahz_crc32", sum, AHZ_FCS_STACK},
-        {"ahz_check_fcs", check, AHZ_FCS_STACK},     {"ahz_without_fcs", check_off, AHZ_FCS_STACK},
-        {"ahz_append_fcs", check_on, AHZ_FCS_STACK}, {"ahz_check_table", table_check, AHZ_STACK},
-        {"ahz_lookup", lookup, AHZ_STACK},           {"ahz_generator", generator, AHZ_STACK},
-        {"ahz_generate", generation, AHZ_STACK},     {"ahz_generator_reset", generator_reset, AHZ_STACK},
-        {"ahz_ticks", ticks, AHZ_STACK},             {"ahz_check_setup_v2", setup_check, AHZ_STACK},
-        {"ahz_fresh_v4", fresh, AHZ_STACK},          {"ahz_numbered", packets, AHZ_STACK},
-        {"ahz_tagless", tagless, AHZ_STACK},         {"ahz_tick", tick, AHZ_STACK},
-        {"ahz_reset", resets, AHZ_STACK},            {"ahz_latent_reset", latent_reset, AHZ_STACK},
-        {"ahz_latent_test", latent_test, AHZ_STACK}, {"ahz_card", card, AHZ_STACK},
-        {"ahz_card_octets", card_part, AHZ_STACK},   {"ahz_rest_octets", rest_part, AHZ_STACK},
-        {"ahz_volts", reading_volts, AHZ_STACK},     {"ahz_tape_v3", bench, AHZ_TAPE_STACK},
+        {"ahz_version", version, AHZ_STACK},          {"ahz_read", reading, AHZ_STACK},
+        {"ahz_read_hsr", reading_hsr, AHZ_STACK},     {"ahz_read_prp", reading_prp, AHZ_STACK},
+        {"ahz_payload", part, AHZ_STACK},             {"ahz_insert", insertion, AHZ_STACK},
+        {"ahz_insert_hsr", insertion_hsr, AHZ_STACK}, {"ahz_insert_prp", insertion_prp, AHZ_STACK},
+        {"ahz_remove", removal, AHZ_STACK},           {"ahz_remove_hsr", removal_hsr, AHZ_STACK},
+        {"ahz_remove_prp", removal_prp, AHZ_STACK},   {"ahz_crc32", sum, AHZ_FCS_STACK},
+        {"ahz_check_fcs", check, AHZ_FCS_STACK},      {"ahz_without_fcs", check_off, AHZ_FCS_STACK},
+        {"ahz_append_fcs", check_on, AHZ_FCS_STACK},  {"ahz_check_table", table_check, AHZ_STACK},
+        {"ahz_lookup", lookup, AHZ_STACK},            {"ahz_generator", generator, AHZ_STACK},
+        {"ahz_generate", generation, AHZ_STACK},      {"ahz_generator_reset", generator_reset, AHZ_STACK},
+        {"ahz_ticks", ticks, AHZ_STACK},              {"ahz_check_setup_v2", setup_check, AHZ_STACK},
+        {"ahz_fresh_v4", fresh, AHZ_STACK},           {"ahz_numbered", packets, AHZ_STACK},
+        {"ahz_tagless", tagless, AHZ_STACK},          {"ahz_tick", tick, AHZ_STACK},
+        {"ahz_reset", resets, AHZ_STACK},             {"ahz_latent_reset", latent_reset, AHZ_STACK},
+        {"ahz_latent_test", latent_test, AHZ_STACK},  {"ahz_card", card, AHZ_STACK},
+        {"ahz_card_octets", card_part, AHZ_STACK},    {"ahz_rest_octets", rest_part, AHZ_STACK},
+        {"ahz_volts", reading_volts, AHZ_STACK},      {"ahz_tape_v3", bench, AHZ_TAPE_STACK},
     };
     const size_t own = taken(none);
     int failed = 0;

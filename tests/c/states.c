@@ -887,14 +887,15 @@ static void answers(void) {
     unsigned answer, other;
     EXPECT(ahz_version() == AHZ_VERSION && ahz_version_fits() == 1);
     for (answer = 0; answer < 256; answer++) EXPECT(ahz_is_refusal((uint8_t)answer) == (answer >= 1 && answer <= 99));
-    for (answer = 1; answer <= 28; answer++) {
-        EXPECT(strcmp(ahz_refusal_sentence((uint8_t)answer), "no refusal") != 0);
-        for (other = 1; other < answer; other++) {
+    for (answer = 0; answer < 256; answer++) {
+        const int has_one = (answer >= 1 && answer <= 28) || answer == 37;
+        EXPECT((strcmp(ahz_refusal_sentence((uint8_t)answer), "no refusal") != 0) == has_one);
+        for (other = 1; has_one && other < answer; other++) {
             EXPECT(strcmp(ahz_refusal_sentence((uint8_t)answer), ahz_refusal_sentence((uint8_t)other)) != 0);
         }
     }
-    EXPECT(strcmp(ahz_refusal_sentence(AHZ_DONE), "no refusal") == 0 && strcmp(ahz_refusal_sentence(29), "no refusal") == 0);
     EXPECT(strcmp(ahz_refusal_sentence(AHZ_R_TAKEN_OR_USE), "taken flag or use not 0 or 1") == 0);
+    EXPECT(strcmp(ahz_refusal_sentence(AHZ_R_PATH_ID), "path or LAN id over 15") == 0);
 }
 
 int main(void) {

@@ -1,4 +1,4 @@
-/* The calls on stream tables, each answer against document 01: entries of every kind, choice and VLAN, in every place and cut everywhere,
+/* The calls on stream tables, each answer against the papers: entries of every kind, choice and VLAN, in every place and cut everywhere,
  * tables of more than 256 entries, and lookups that differ from a match in one thing. */
 #include "check.h"
 #include "paper.h"
@@ -86,7 +86,10 @@ static void lookups(void) {
         size_t count;
     } tags[] = {{{0}, 0}, {{0x81, 0, 0, 0}, 4}, {{0x81, 0, 0xF0, 0}, 4}, {{0x81, 0, 0x00, 0x01}, 4}, {{0x81, 0, 0x31, 0x05}, 4},
                 {{0x81, 0, 0x0F, 0xFE}, 4}, {{0xF1, 0xC1, 0, 0, 1, 5}, 6}, {{0x81, 0, 0, 5, 0xF1, 0xC1, 0, 0, 1, 2}, 10},
-                {{0x81, 0, 0, 0, 0xF1, 0xC1, 0, 0, 1, 2}, 10}, {{0x88, 0xA8, 0x01, 0x05}, 4}, {{0x81, 0, 0x0F, 0xFF}, 4}};
+                {{0x81, 0, 0, 0, 0xF1, 0xC1, 0, 0, 1, 2}, 10}, {{0x88, 0xA8, 0x01, 0x05}, 4}, {{0x81, 0, 0x0F, 0xFF}, 4},
+                {{0x89, 0x2F, 0x10, 0x0A, 1, 5}, 6}, {{0x81, 0, 0, 5, 0x89, 0x2F, 0x10, 0x0A, 1, 2}, 10},
+                {{0x81, 0, 0, 0, 0x89, 0x2F, 0x10, 0x0A, 1, 2}, 10}, {{0x89, 0x2F, 0x10, 0x0A, 1, 5, 0xF1, 0xC1}, 8},
+                {{0xF1, 0xC1, 0, 0, 1, 5, 0x89, 0x2F}, 8}};
     static const uint16_t vlans[] = {0, 1, 4, 5, 0x0100, 0x0105, 0x0104, 0x0205, 4094}, handles[] = {0, 1, 0x0100, 0xFFFF};
     static const uint8_t changes[] = {0, 0x01, 0x80};
     size_t tag, vlan, turn = 0, octet, change;
@@ -126,6 +129,34 @@ static void lookups(void) {
     expect_lookup(11, table, 0);
 }
 
+/* A number that is put in, in whichever encoding, does not change which stream a frame belongs to. */
+static void same_stream(void) {
+    static const uint8_t tags[] = {0x81, 0, 0x20, 0x05, 0x81, 0, 0xE0, 0x00};
+    uint8_t frame[40], numbered[46];
+    unsigned tag, kind, choice, vlan;
+    int encoding;
+    for (tag = 0; tag < 3; tag++) { /* with 2 there is none */
+        const size_t octets = 12 + (tag == 2 ? 0 : 4) + 10;
+        memset(frame, 0x11, sizeof frame);
+        memcpy(frame, frame_head, 12);
+        if (tag < 2) memcpy(frame + 12, tags + 4 * tag, 4);
+        for (encoding = 0; encoding < ENCODINGS; encoding++) {
+            EXPECT(paper_insert(encoding, frame, octets, 258, 10, numbered) == 0);
+            for (kind = 1; kind <= 2; kind++) {
+                for (choice = 1; choice <= 3; choice++) {
+                    for (vlan = 0; vlan <= 5; vlan += 5) {
+                        uint16_t handle = 0, same = 0;
+                        put_entry(0, kind, choice, vlan, 0x1234);
+                        EXPECT(ahz_lookup(table, 12, frame, octets, &handle) == ahz_lookup(table, 12, numbered, octets + 6, &same));
+                        EXPECT(handle == same);
+                        expect_lookup(12, numbered, octets + 6);
+                    }
+                }
+            }
+        }
+    }
+}
+
 /* Tables of a few entries in which several match, and which one is first decides. */
 static void first_of_several(void) {
     static const uint8_t vlans[] = {0, 0, 5, 6};
@@ -146,6 +177,6 @@ static void first_of_several(void) {
 }
 
 int main(void) {
-    static void (*const parts[])(void) = {entries, long_tables, lookups, first_of_several};
+    static void (*const parts[])(void) = {entries, long_tables, lookups, same_stream, first_of_several};
     return run_tests("tests/c/tables.c", parts, COUNT(parts));
 }

@@ -31,6 +31,8 @@ int main(void) {
     right = right && answer == AHZ_FROM_RAW_CODE && volts.volts == 3.0;
     answer = ahz_header_read(&header, payload, sizeof payload);
     right = right && answer == AHZ_R_FRAME_SHORT && answer != (right ? AHZ_DONE : AHZ_R_FRAME_SHORT);
+    right = right && ahz_header_read_hsr(&header, payload, sizeof payload) == answer;
+    right = right && ahz_header_read_prp(&header, payload, sizeof payload) == answer;
     ahz_generator_restart(&generator);
     right = right && generator.next == 0 && constant.rate.per_second == 100;
 #ifndef __cplusplus /* C takes these without a warning, as the header says */
@@ -172,6 +174,18 @@ int main(void) {
 #endif
 #if MIXUP == 44 /* warned: the marks as one word, as version 3 gave them */
     right = right && ahz_state_marks(&state) == 0;
+#endif
+#if MIXUP == 45 /* an HSR tag without a path id, as an R-TAG is put in */
+    uint8_t out[16]; size_t length; answer = ahz_insert_hsr(payload, sizeof payload, number, out, sizeof out, &length);
+#endif
+#if MIXUP == 46 /* a PRP trailer without a LAN id */
+    uint8_t out[16]; size_t length; answer = ahz_insert_prp(payload, sizeof payload, number, out, sizeof out, &length);
+#endif
+#if MIXUP == 47 /* an R-TAG with a path id, which it does not have */
+    uint8_t out[16]; size_t length; answer = ahz_insert(payload, sizeof payload, number, 10, out, sizeof out, &length);
+#endif
+#if MIXUP == 48 /* a header where a path id is asked */
+    uint8_t out[16]; size_t length; answer = ahz_insert_prp(payload, sizeof payload, number, header, out, sizeof out, &length);
 #endif
     right = right && answer != AHZ_DONE && number == 0;
     if (!right) printf("tests/c/units.c: without a mistake, a wrong answer\n");

@@ -10,8 +10,10 @@
 //! nothing of a frame, a number, a table, a state or a buffer. No buffer is cleared in between.
 
 use ahozurime as ours;
+use compare::plain::encoding::{Encoding, LENGTH};
 use compare::{plain, words};
 use ours::recovery::{Rule, Usage, Verdict};
+use ours::Refusal;
 use std::hint::black_box;
 use std::process::Command;
 use std::time::{Duration, Instant};
@@ -24,6 +26,7 @@ const ROUND: Duration = Duration::from_micros(500);
 mod called {
     use compare::plain;
     use plain::cards::{Calibration, Card, Volts};
+    use plain::encoding::Encoding;
     use plain::frame::Header;
     use plain::recovery::{Generator, State, Verdict};
 
@@ -40,6 +43,36 @@ mod called {
     #[inline(never)]
     pub fn remove(frame: &[u8], out: &mut [u8]) -> Result<usize, u8> {
         plain::frame::remove(frame, out)
+    }
+
+    #[inline(never)]
+    pub fn read_hsr(frame: &[u8]) -> Result<Header, u8> {
+        plain::frame::read_in(Encoding::Hsr, frame)
+    }
+
+    #[inline(never)]
+    pub fn insert_hsr(frame: &[u8], number: u16, id: u8, out: &mut [u8]) -> Result<usize, u8> {
+        plain::frame::insert_in(Encoding::Hsr, frame, number, id, out)
+    }
+
+    #[inline(never)]
+    pub fn remove_hsr(frame: &[u8], out: &mut [u8]) -> Result<usize, u8> {
+        plain::frame::remove_in(Encoding::Hsr, frame, out)
+    }
+
+    #[inline(never)]
+    pub fn read_prp(frame: &[u8]) -> Result<Header, u8> {
+        plain::frame::read_in(Encoding::Prp, frame)
+    }
+
+    #[inline(never)]
+    pub fn insert_prp(frame: &[u8], number: u16, id: u8, out: &mut [u8]) -> Result<usize, u8> {
+        plain::frame::insert_in(Encoding::Prp, frame, number, id, out)
+    }
+
+    #[inline(never)]
+    pub fn remove_prp(frame: &[u8], out: &mut [u8]) -> Result<usize, u8> {
+        plain::frame::remove_in(Encoding::Prp, frame, out)
     }
 
     #[inline(never)]
@@ -160,19 +193,23 @@ fn both(what: impl Into<String>, mut ours: impl FnMut(u32), mut plain: impl FnMu
     Figure { what: what.into(), ours: median(of_ours), plain: median(of_plain) }
 }
 
-/// A frame of so many octets: a C-TAG where there is a VLAN, and an R-TAG or none.
-fn frame(octets: usize, stream: u8, vlan: Option<u16>, tagged: bool) -> Vec<u8> {
+/// A frame of so many octets: a C-TAG where there is a VLAN, and a number in that encoding or none.
+fn frame(octets: usize, stream: u8, vlan: Option<u16>, numbered: Option<Encoding>) -> Vec<u8> {
     let mut frame = vec![2, 0, 0, 0, 1, stream, 2, 0, 0, 0, 9, 9];
     if let Some(vlan) = vlan {
         frame.extend([0x81, 0x00]);
         frame.extend(vlan.to_be_bytes());
     }
-    if tagged {
-        frame.extend([0xF1, 0xC1, 0, 0, 1, 2]);
-    }
     frame.extend([0x08, 0x00]);
-    frame.resize(octets, 0x5A);
-    frame
+    let Some(encoding) = numbered else {
+        frame.resize(octets, 0x5A);
+        return frame;
+    };
+    frame.resize(octets - LENGTH, 0x5A);
+    let mut whole = vec![0; octets];
+    let length = plain::frame::insert_in(encoding, &frame, 258, 10, &mut whole);
+    assert_eq!(length, Ok(octets));
+    whole
 }
 
 /// Entries by destination, one for each stream.
@@ -227,48 +264,85 @@ fn begun(
     (Lined(ours), Lined(plain))
 }
 
-fn frames(figures: &mut Vec<Figure>) {
+/// Reading, insertion and removal in one encoding, by two calls each: ours and the plain version's.
+fn in_one_encoding<Ours, Plain>(
+    figures: &mut Vec<Figure>,
+    (name, encoding): (&str, Encoding),
+    read: (impl Fn(&[u8]) -> Ours, impl Fn(&[u8]) -> Plain),
+    insert: (
+        impl Fn(&[u8], &mut [u8]) -> Result<usize, Refusal>,
+        impl Fn(&[u8], &mut [u8]) -> Result<usize, u8>,
+    ),
+    remove: (
+        impl Fn(&[u8], &mut [u8]) -> Result<usize, Refusal>,
+        impl Fn(&[u8], &mut [u8]) -> Result<usize, u8>,
+    ),
+) {
     for (what, octets, vlan) in
         [("64 octets", 64, None), ("64 octets, C-TAG", 64, Some(5)), ("1500 octets", 1_500, None)]
     {
-        let (bare, tagged) = (frame(octets, 7, vlan, false), frame(octets, 7, vlan, true));
-        let (bare, tagged) = (&bare[..], &tagged[..]);
+        let (bare, whole) = (frame(octets, 7, vlan, None), frame(octets, 7, vlan, Some(encoding)));
+        let (bare, whole) = (&bare[..], &whole[..]);
         let (mut out, mut other) = (Lined([0; 1_522]), Lined([0; 1_522]));
         figures.push(both(
-            format!("read, {what}"),
-            |times| repeat(times, || ours::frame::read(black_box(tagged))),
-            |times| repeat(times, || called::read(black_box(tagged))),
+            format!("read{name}, {what}"),
+            |times| repeat(times, || read.0(black_box(whole))),
+            |times| repeat(times, || read.1(black_box(whole))),
         ));
         figures.push(both(
-            format!("insert, {what}"),
-            |times| {
-                repeat(times, || {
-                    ours::frame::insert(black_box(bare), black_box(258), black_box(&mut out.0[..]))
-                })
-            },
-            |times| {
-                repeat(times, || {
-                    called::insert(black_box(bare), black_box(258), black_box(&mut other.0[..]))
-                })
-            },
+            format!("insert{name}, {what}"),
+            |times| repeat(times, || insert.0(black_box(bare), black_box(&mut out.0[..]))),
+            |times| repeat(times, || insert.1(black_box(bare), black_box(&mut other.0[..]))),
         ));
         figures.push(both(
-            format!("remove, {what}"),
-            |times| {
-                repeat(times, || ours::frame::remove(black_box(tagged), black_box(&mut out.0[..])))
-            },
-            |times| {
-                repeat(times, || called::remove(black_box(tagged), black_box(&mut other.0[..])))
-            },
+            format!("remove{name}, {what}"),
+            |times| repeat(times, || remove.0(black_box(whole), black_box(&mut out.0[..]))),
+            |times| repeat(times, || remove.1(black_box(whole), black_box(&mut other.0[..]))),
         ));
     }
+}
+
+/// The R-TAG's rows have no name of it.
+fn frames(figures: &mut Vec<Figure>) {
+    let number = || black_box(258);
+    let id = || black_box(10);
+    in_one_encoding(
+        figures,
+        ("", Encoding::RTag),
+        (ours::frame::read, called::read),
+        (
+            |frame, out| ours::frame::insert(frame, number(), out),
+            |frame, out| called::insert(frame, number(), out),
+        ),
+        (ours::frame::remove, called::remove),
+    );
+    in_one_encoding(
+        figures,
+        (" HSR", Encoding::Hsr),
+        (ours::frame::read_hsr, called::read_hsr),
+        (
+            |frame, out| ours::frame::insert_hsr(frame, number(), id(), out),
+            |frame, out| called::insert_hsr(frame, number(), id(), out),
+        ),
+        (ours::frame::remove_hsr, called::remove_hsr),
+    );
+    in_one_encoding(
+        figures,
+        (" PRP", Encoding::Prp),
+        (ours::frame::read_prp, called::read_prp),
+        (
+            |frame, out| ours::frame::insert_prp(frame, number(), id(), out),
+            |frame, out| called::insert_prp(frame, number(), id(), out),
+        ),
+        (ours::frame::remove_prp, called::remove_prp),
+    );
 }
 
 /// The shortest frame, and those that are the shortest and the longest on a wire once the check has
 /// added its four octets.
 fn checks(figures: &mut Vec<Figure>) {
     for octets in [14, 60, 1_514] {
-        let frame = frame(octets, 7, None, false);
+        let frame = frame(octets, 7, None, None);
         let frame = &frame[..];
         let (mut out, mut other) = (Lined([0; 1_526]), Lined([0; 1_526]));
         let checked = [frame, &plain::fcs::crc32(frame).to_le_bytes()].concat();
@@ -300,7 +374,7 @@ fn lookups(figures: &mut Vec<Figure>) {
     for entries in [1, 16, 256] {
         let table = table(entries);
         let table = &table[..];
-        let hit = frame(64, (entries - 1) as u8, None, true);
+        let hit = frame(64, (entries - 1) as u8, None, Some(Encoding::RTag));
         let mut miss = hit.clone();
         miss[0] = 4;
         for (what, frame) in [("hit at the end", &hit[..]), ("miss", &miss[..])] {
@@ -481,7 +555,8 @@ fn tape(figures: &mut Vec<Figure>) {
 fn receive(entries: usize) -> Figure {
     let table = table(entries);
     let table = &table[..];
-    let frames: Vec<Vec<u8>> = (0..entries).map(|i| frame(64, i as u8, None, true)).collect();
+    let frames: Vec<Vec<u8>> =
+        (0..entries).map(|i| frame(64, i as u8, None, Some(Encoding::RTag))).collect();
     let (ours, plain) = begun(VECTOR);
     let (mut ours, mut plain) = (vec![ours; entries], vec![plain; entries]);
     let (mut of_ours, mut of_plain) = (frames.clone(), frames);

@@ -1,12 +1,13 @@
-//! The link layer in plain Rust, one module for each chapter of document 01, and `fcs` for CR 6 of
-//! document 02.
+//! The link layer in plain Rust, one module for each chapter of document 01, and of document 02
+//! `encoding` for CR 5 and `fcs` for CR 6.
 //!
-//! A refusal is the papers' number ("When the layer says no", and 28), so every call that can refuse
-//! answers `Result<_, u8>`.
+//! A refusal is the papers' number ("When the layer says no", and 28 and 37), so every call that can
+//! refuse answers `Result<_, u8>`.
 
 #![forbid(unsafe_code)]
 
 pub mod cards;
+pub mod encoding;
 pub mod fcs;
 pub mod frame;
 pub mod recovery;

@@ -1,7 +1,7 @@
 -- The cases with a star (`specs/Starred`), computed from the written rules. Assumes nothing.
 use mathlib.Core.Path.{refl}
 use Rattle.octets.specs.Checks.{verdict}
-use Rattle.frame.specs.Layout.{tag}
+use Rattle.encoding.specs.Encodings.{inFront, mark as tell, idAndSize, idWord, words, asOctets, six}
 use Rattle.marks.specs.Window.{valueOf, number, wordIn, marksOf, mark, none, clearFrom, set, reach, moved, lostBy, slid, lostIn}
 use Rattle.setup.specs.Conversion.{fullTicks, ticksOf}
 use Rattle.setup.specs.Range.{setupChecks, checked, isVector, isIndividual}
@@ -19,7 +19,7 @@ use Rattle.recovery.specs.Packets.{numbered, tracing, settled, heard, packetOf}
 use Rattle.edges.specs.Starred.{cases, Starred}
 
 pub starred : Starred
-unfolding cases tag valueOf number wordIn marksOf mark none clearFrom set reach moved lostBy slid lostIn verdict fullTicks ticksOf
+unfolding cases inFront tell idAndSize idWord words asOctets six valueOf number wordIn marksOf mark none clearFrom set reach moved lostBy slid lostIn verdict fullTicks ticksOf
     setupChecks checked isVector isIndividual apart signed difference outOfOrder firstMarks first late onward byDifference vector match plus
     awaits partsAgree keepsFirst sound freshState restarted byRule numbered opened carried holeBy holesIn traced tracing counted settled heard packetOf
 starred = refl

@@ -3,7 +3,9 @@
 use Prim.Native.Nat.{ℕ}
 use mathlib.Core.Path.{_≡_}
 use mathlib.Core.List.{List, [], _∷_, map}
-use Rattle.frame.specs.Layout.{tag}
+use Rattle.encoding.specs.declared.Encoding.{Encoding}
+use Rattle.encoding.specs.declared.Encoding.the-variants.{RTag, Hsr, Prp}
+use Rattle.encoding.specs.Encodings.{six}
 use Rattle.setup.specs.declared.Setup.{Setup}
 use Rattle.setup.specs.Values.{setupOf}
 use Rattle.setup.specs.Conversion.{ticksOf}
@@ -15,11 +17,11 @@ use Rattle.recovery.specs.Resets.{freshState}
 use Rattle.recovery.specs.Packets.{packetOf}
 
 -- what is asked: packets from a fresh state, by rule (0 vector, 1 match) and history length; ticks of milliseconds at ticks per second;
--- the octets of an R-TAG
+-- the six octets of an encoding for a number, an id and a size
 pub data Asked : Type 0 where
   hear : (rule history : ℕ) → List ℕ → Asked
   ticks : (ms perSecond : ℕ) → Asked
-  tagged : ℕ → Asked
+  sixOctets : Encoding → (number id size : ℕ) → Asked
 
 -- what is answered: the verdicts, with order and rogue after the last; a number; octets
 pub data Answer : Type 0 where
@@ -48,7 +50,7 @@ answer (hear rule history ns) =
     let s = freshState (setup rule history) in
     heardAs (verdicts s ns) (after s ns .counters .order) (after s ns .counters .rogue)
 answer (ticks ms perSecond) = number (ticksOf (record { 0 = ms }) perSecond .0)
-answer (tagged n) = octets (tag n)
+answer (sixOctets e n id size) = octets (six e n id size)
 
 unfoldable pub cases : List Case
 cases =
@@ -77,7 +79,10 @@ cases =
     ∷ record { asked = hear 1 4 (5 ∷ 6 ∷ 5 ∷ []); said = heardAs (Pass ∷ Pass ∷ Pass ∷ []) 1 0 }
     ∷ record { asked = hear 1 4 (5 ∷ 5 ∷ []); said = heardAs (Pass ∷ Discard ∷ []) 0 0 }
     -- "Number 258: F1 C1 00 00 01 02"
-    ∷ record { asked = tagged 258; said = octets (0xF1 ∷ 0xC1 ∷ 0x00 ∷ 0x00 ∷ 0x01 ∷ 0x02 ∷ []) }
+    ∷ record { asked = sixOctets RTag 258 0 10; said = octets (0xF1 ∷ 0xC1 ∷ 0x00 ∷ 0x00 ∷ 0x01 ∷ 0x02 ∷ []) }
+    -- CR 5: that number with id 10 and a payload of 4, by "892F, path id 4 bits, size 12, number 16" and "number 16, LAN id 4, size 12, 88FB"
+    ∷ record { asked = sixOctets Hsr 258 10 10; said = octets (0x89 ∷ 0x2F ∷ 0xA0 ∷ 0x0A ∷ 0x01 ∷ 0x02 ∷ []) }
+    ∷ record { asked = sixOctets Prp 258 10 10; said = octets (0x01 ∷ 0x02 ∷ 0xA0 ∷ 0x0A ∷ 0x88 ∷ 0xFB ∷ []) }
     ∷ []
 
 abbrev pub given : Case → Answer

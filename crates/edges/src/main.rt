@@ -1,5 +1,8 @@
 // "Both sides of each edge" (document 01): every case is run, and what it gave is printed. The frame cases are frames of zeros with a tag
 // or two put in. The cases with a star are proved besides: `Starred` of specs/Starred.antt.
+use encoding::Encoding;
+use encoding::Packet as Carried;
+use encoding::Sequence;
 use frame::Reading;
 use libc::STDOUT_FILENO;
 use recovery::Begun;
@@ -70,10 +73,10 @@ fn answer(word: &[u8], n: u64) {
     io::write_all(STDOUT_FILENO, b"\n");
 }
 
-// Behind both addresses.
-fn put_tags(tags: &[u8], frame: &mut [u8]) {
-    if 12 <= frame.len() {
-        octets::put(tags, &mut frame[12..]);
+// Octets from a place of a frame on.
+fn put_at(six: &[u8], at: usize, frame: &mut [u8]) {
+    if at <= frame.len() {
+        octets::put(six, &mut frame[at..]);
     }
 }
 
@@ -81,31 +84,58 @@ fn put_tags(tags: &[u8], frame: &mut [u8]) {
 fn frame_case(title: &[u8], tags: &[u8], length: usize) {
     io::write_all(STDOUT_FILENO, title);
     let mut octets = [0u8; 1523];
-    put_tags(tags, &mut octets);
+    put_at(tags, 12, &mut octets);
     match frame::read(front(&octets, length)) {
         Reading::Frame(header) => answer(b"payload from ", header.payload as u64),
         Reading::Refused(number) => answer(b"refused ", number as u64),
     }
 }
 
-// A title, and what inserting number 258 into a frame of that length gives: its length, or the refusal.
-fn insert_case(title: &[u8], length: usize) {
+// A title, and the number that a frame of a PRP stream has, with so many octets of payload of which the last six are those.
+fn trailer_case(title: &[u8], six: &[u8], payload: usize) {
+    io::write_all(STDOUT_FILENO, title);
+    let mut octets = [0u8; 32];
+    if payload <= 18 {
+        put_at(six, 8 + payload, &mut octets);
+        match encoding::read(front(&octets, 14 + payload), Encoding::Prp) {
+            Carried::Frame(_, sequence) => say_sequence(sequence),
+            Carried::Refused(number) => answer(b"refused ", number as u64),
+        }
+    }
+}
+
+fn say_sequence(sequence: Sequence) {
+    if sequence.numbered {
+        io::write_all(STDOUT_FILENO, b"number ");
+        io::print_decimal(STDOUT_FILENO, sequence.number as u64);
+        answer(b", id ", sequence.path as u64);
+    } else {
+        io::write_all(STDOUT_FILENO, b"no number\n");
+    }
+}
+
+// A title, and what inserting number 258 with that id into a frame of that length gives: its length, or the refusal.
+fn insert_case(title: &[u8], encoding: Encoding, path: u8, length: usize) {
     io::write_all(STDOUT_FILENO, title);
     let octets = [0u8; 1523];
     let mut out = [0u8; 1523];
-    match insertion::insert(front(&octets, length), 258, &mut out) {
+    match insertion::insert(front(&octets, length), encoding, 258, path, &mut out) {
         tag::Written::Length(n) => answer(b"length ", n as u64),
         tag::Written::Refused(number) => answer(b"refused ", number as u64),
     }
 }
 
-// A title, and the six octets of number 258's tag.
-fn tag_case(title: &[u8]) {
+// A title, and the six octets of number 258 and id 10 in a frame with a payload of 4.
+fn tag_case(title: &[u8], encoding: Encoding) {
     io::write_all(STDOUT_FILENO, title);
-    let octets = [0u8; 14];
-    let mut out = [0u8; 20];
-    insertion::insert(&octets, 258, &mut out);
-    io::print_hex(STDOUT_FILENO, octets::word48(&out, 12), 12);
+    let octets = [0u8; 18];
+    let mut out = [0u8; 24];
+    insertion::insert(&octets, encoding, 258, 10, &mut out);
+    io::print_hex(
+        STDOUT_FILENO,
+        octets::word48(&out, encoding::place(encoding, 12, 18)),
+        12,
+    );
     io::write_all(STDOUT_FILENO, b"\n");
 }
 
@@ -160,9 +190,58 @@ fn both_tags_cases() {
     frame_case(b"both in 24: ", b"\x81\x00\x00\x00\xf1\xc1", 24);
 }
 
+// Document 02, CR 5: the same edges at an HSR tag.
+fn hsr_cases() {
+    frame_case(b"HSR tag in 19: ", b"\x89\x2f", 19);
+    frame_case(b"HSR tag in 20: ", b"\x89\x2f", 20);
+    frame_case(b"both with HSR in 23: ", b"\x81\x00\x00\x00\x89\x2f", 23);
+    frame_case(b"both with HSR in 24: ", b"\x81\x00\x00\x00\x89\x2f", 24);
+}
+
+fn mixed_cases() {
+    frame_case(
+        b"HSR tag behind R-TAG: ",
+        b"\xf1\xc1\x00\x00\x00\x00\x89\x2f",
+        64,
+    );
+    frame_case(
+        b"R-TAG behind HSR tag: ",
+        b"\x89\x2f\x00\x00\x00\x00\xf1\xc1",
+        64,
+    );
+}
+
+fn trailer_cases() {
+    trailer_case(
+        b"trailer in a payload of 5: ",
+        b"\x01\x02\xa0\x05\x88\xfb",
+        5,
+    );
+    trailer_case(
+        b"trailer in a payload of 6: ",
+        b"\x01\x02\xa0\x06\x88\xfb",
+        6,
+    );
+    trailer_case(
+        b"size 7 in a payload of 6: ",
+        b"\x01\x02\xa0\x07\x88\xfb",
+        6,
+    );
+    trailer_case(b"suffix 88FA: ", b"\x01\x02\xa0\x06\x88\xfa", 6);
+}
+
 fn insert_cases() {
-    insert_case(b"insertion into 1516: ", 1516);
-    insert_case(b"insertion into 1517: ", 1517);
+    insert_case(b"insertion into 1516: ", Encoding::RTag, 0, 1516);
+    insert_case(b"insertion into 1517: ", Encoding::RTag, 0, 1517);
+    insert_case(b"PRP insertion into 1516: ", Encoding::Prp, 0, 1516);
+    insert_case(b"PRP insertion into 1517: ", Encoding::Prp, 0, 1517);
+}
+
+fn id_cases() {
+    insert_case(b"path id 15: ", Encoding::Hsr, 15, 64);
+    insert_case(b"path id 16: ", Encoding::Hsr, 16, 64);
+    insert_case(b"LAN id 15: ", Encoding::Prp, 15, 64);
+    insert_case(b"LAN id 16: ", Encoding::Prp, 16, 64);
 }
 
 fn main() {
@@ -171,9 +250,15 @@ fn main() {
     far_cases();
     tick_cases();
     match_cases();
-    tag_case(b"number 258: ");
+    tag_case(b"number 258: ", Encoding::RTag);
     length_cases();
     one_tag_cases();
     both_tags_cases();
     insert_cases();
+    tag_case(b"HSR, number 258, path id 10: ", Encoding::Hsr);
+    tag_case(b"PRP, number 258, LAN id 10: ", Encoding::Prp);
+    hsr_cases();
+    mixed_cases();
+    trailer_cases();
+    id_cases();
 }

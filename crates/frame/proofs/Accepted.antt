@@ -11,8 +11,8 @@ use Rattle.octets.proofs.Bools.{by-cases, neither}
 use Rattle.octets.proofs.Order.{verdict-append, clear, both-good}
 use Rattle.frame.specs.declared.Header.{Header}
 use Rattle.frame.specs.declared.Reading.the-variants.{Frame, Refused}
-use Rattle.frame.specs.Layout.{C-TAG, R-TAG, tagged, vlan, tagPlace, numbered, payloadPlace, kindPlace}
-use Rattle.frame.specs.Reader.{Before, lengthChecks, ctagChecks, rtagChecks, checks, header, answered, reading}
+use Rattle.frame.specs.Layout.{C-TAG, tagged, vlan, tagPlace, announces, sequenced, payloadPlace, kindPlace}
+use Rattle.frame.specs.Reader.{Before, lengthChecks, ctagChecks, sequenceChecks, checks, header, answered, reading}
 
 -- the answer tells the verdict: a header is given exactly of a good frame, and it is the frame's
 pub frame-good : (o : List ℕ) {h : Header} → Frame h ≡ reading o → (verdict (checks o) ≡ good) × (h ≡ header o)
@@ -44,13 +44,22 @@ pub read-good : (o : List ℕ) (more : List Check) {h : Header} → Frame h ≡ 
 unfolding _then_
 read-good o more e = simp (verdict-append, frame-good o e .0)
 
+-- where the payload starts with a sequence tag, and without one
+pub payload-tagged : (o : List ℕ) → sequenced o ≡ true → payloadPlace o ≡ tagPlace o + 6 + 2
+unfolding payloadPlace kindPlace
+payload-tagged o s = rw s
+
+pub payload-bare : (o : List ℕ) → sequenced o ≡ false → payloadPlace o ≡ tagPlace o + 2
+unfolding payloadPlace kindPlace
+payload-bare o s = rw s
+
 module _ (o : List ℕ) (ok : verdict (checks o) ≡ good) where
   parts-good : (verdict (lengthChecks o) ≡ good)
-      × (verdict (cond (tagged o) (ctagChecks o) [] ++ cond (numbered o) (rtagChecks o) []) ≡ good)
+      × (verdict (cond (tagged o) (ctagChecks o) [] ++ cond (sequenced o) (sequenceChecks o) []) ≡ good)
   unfolding checks
   parts-good = both-good _ _ (sym (verdict-append (lengthChecks o) _) ∙ ok)
 
-  tags-good : (verdict (cond (tagged o) (ctagChecks o) []) ≡ good) × (verdict (cond (numbered o) (rtagChecks o) []) ≡ good)
+  tags-good : (verdict (cond (tagged o) (ctagChecks o) []) ≡ good) × (verdict (cond (sequenced o) (sequenceChecks o) []) ≡ good)
   tags-good = both-good _ _ (sym (verdict-append (cond (tagged o) (ctagChecks o) []) _) ∙ parts-good .1)
 
   pub least : 14 ≤ length o
@@ -69,30 +78,30 @@ module _ (o : List ℕ) (ok : verdict (checks o) ≡ good) where
       let v = clear _ _ _ (g .1) in
       (ltb-false _ _ (g .0), eqb-false _ _ (v .0), eqb-false _ _ (clear _ _ _ (v .1) .0))
 
-  -- at an R-TAG: the octets reach past the type behind it, and no tag follows
-  pub behind-rtag : numbered o ≡ true
-      → (tagPlace o + 6 + 2 ≤ length o) × (be16 o (tagPlace o + 6) ≡ C-TAG → ⊥) × (be16 o (tagPlace o + 6) ≡ R-TAG → ⊥)
-  unfolding rtagChecks
-  behind-rtag n =
+  -- at a sequence tag: the octets reach past the type behind it, and no tag follows
+  pub behind-tag : sequenced o ≡ true
+      → (tagPlace o + 6 + 2 ≤ length o) × (be16 o (tagPlace o + 6) ≡ C-TAG → ⊥) × (announces (be16 o (tagPlace o + 6)) ≡ false)
+  unfolding sequenceChecks
+  behind-tag n =
       let g = clear _ _ _ (simp n at (tags-good .1)) in
       let e = neither _ _ (clear _ _ _ (g .1) .0) in
-      (ltb-false _ _ (g .0), eqb-false _ _ (e .0), eqb-false _ _ (e .1))
+      (ltb-false _ _ (g .0), eqb-false _ _ (e .0), e .1)
 
-  -- so only the checks at an R-TAG were left when its place was reached
+  -- so only the checks at a sequence tag were left when its place was reached
   pub good-before : Before o (tagPlace o) (tagged o) (vlan o)
   good-before = record { place = refl; isTagged = refl; isVlan = refl; left = ok ∙ sym (tags-good .1) }
 
-  -- without an R-TAG, what stands at its place is no tag
-  pub no-tag : numbered o ≡ false → (be16 o (tagPlace o) ≡ C-TAG → ⊥) × (be16 o (tagPlace o) ≡ R-TAG → ⊥)
-  unfolding numbered tagPlace tagged
-  no-tag n = (by-cases (tagged o) (λ e. rw e (behind-ctag e .2)) (λ e. rw e (eqb-false _ _ e)), eqb-false _ _ n)
+  -- what stands at the sequence tag's place is no C-TAG
+  pub no-ctag : be16 o (tagPlace o) ≡ C-TAG → ⊥
+  unfolding tagPlace tagged
+  no-ctag = by-cases (tagged o) (λ e. rw e (behind-ctag e .2)) (λ e. rw e (eqb-false _ _ e))
 
   -- the payload starts within the frame
   pub payload-within : payloadPlace o ≤ length o
-  unfolding payloadPlace kindPlace tagPlace
+  unfolding tagPlace
   payload-within =
-      by-cases (numbered o) (λ n. rw n (behind-rtag n .0))
-      (λ n. rw n (by-cases (tagged o) (λ t. rw t (behind-ctag t .0)) (λ t. rw t least)))
+      by-cases (sequenced o) (λ n. rw (payload-tagged o n) (behind-tag n .0))
+      (λ n. rw (payload-bare o n) (by-cases (tagged o) (λ t. rw t (behind-ctag t .0)) (λ t. rw t least)))
 
 -- the same of the header that was read
 pub starts-within : (o : List ℕ) {h : Header} → Frame h ≡ reading o → h .payload ≤ length o

@@ -13,8 +13,8 @@ use Rattle.octets.proofs.Bools.{by-cases}
 use Rattle.frame.specs.declared.Header.{Header}
 use Rattle.frame.specs.declared.Reading.the-variants.{Frame, Refused}
 use Rattle.frame.specs.Layout as Layout
-use Rattle.frame.specs.Layout.{C-TAG, R-TAG, destination, source, tagPlace, numbered, number, numberAt, kind, kindPlace, payloadPlace}
-use Rattle.frame.specs.Reader.{Before, lengthChecks, ctagChecks, rtagChecks, checks, header, answered, reading}
+use Rattle.frame.specs.Layout.{C-TAG, destination, source, tagPlace, announces, sequenced, announced, kind, kindPlace, payloadPlace}
+use Rattle.frame.specs.Reader.{Before, lengthChecks, ctagChecks, sequenceChecks, checks, header, answered, reading}
 
 tagPlace-bounds : (o : List ℕ) → (12 ≤ tagPlace o) × (tagPlace o ≤ 16)
 unfolding tagPlace
@@ -61,61 +61,61 @@ module _ (o : List ℕ) (least : 14 ≤ length o) (most : length o ≤ 1522) whe
           left = simp (le-ltb _ _ least, le-ltb _ _ most, e, le-ltb _ _ h, ne-eqb _ _ v, ne-eqb _ _ t);
         }
 
--- a header by what was read on the way, with the last type at a place and the payload behind it
-unfoldable pub headerAt : List ℕ → Bool → ℕ → Bool → ℕ → ℕ → Header
-headerAt o t v isNumbered n at =
+-- a header by what was read on the way: what announces a sequence tag, and the last type at a place with the payload behind it
+unfoldable pub headerAt : List ℕ → Bool → ℕ → ℕ → ℕ → Header
+headerAt o t v type at =
     record {
       destination = destination o;
       source = source o;
       tagged = t;
       vlan = v;
-      numbered = isNumbered;
-      number = n;
+      announced = type;
       kind = be16 o at;
       payload = at + 2;
     }
 
--- from the R-TAG's place on
+-- from the sequence tag's place on
 module _ {o : List ℕ} {at : ℕ} {t : Bool} {v : ℕ} (b : Before o at t v) where
   pub place-bounds : (12 ≤ at) × (at ≤ 16)
   place-bounds = rw (b .place) (tagPlace-bounds o)
 
-  -- a frame whose checks at an R-TAG come to `w`
-  comes-to : (w : Verdict) → verdict (cond (numbered o) (rtagChecks o) []) ≡ w → answered w (header o) ≡ reading o
+  -- a frame whose checks at a sequence tag come to `w`
+  comes-to : (w : Verdict) → verdict (cond (sequenced o) (sequenceChecks o) []) ≡ w → answered w (header o) ≡ reading o
   unfolding reading
   comes-to w e = simp (b .left, e)
 
-  pub unnumbered : (be16 o at ≡ R-TAG → ⊥) → Frame (headerAt o t v false 0 at) ≡ reading o
-  unfolding headerAt header verdict numbered number kind kindPlace payloadPlace
-  unnumbered n =
-      let e = ne-eqb _ _ (rw (b .place) at n) in
+  -- whether there is one
+  is-sequenced : {s : Bool} → announces (be16 o at) ≡ s → sequenced o ≡ s
+  unfolding sequenced
+  is-sequenced e = rw (← b .place) e
+
+  pub bare : announces (be16 o at) ≡ false → Frame (headerAt o t v 0 at) ≡ reading o
+  unfolding headerAt header verdict announced kind kindPlace payloadPlace
+  bare n =
+      let e = is-sequenced n in
       simp (b .place, b .isTagged, b .isVlan) (rw (← comes-to good (simp e)) (simp e))
 
-  module _ (r : be16 o at ≡ R-TAG) where
-    is-numbered : numbered o ≡ true
-    unfolding numbered
-    is-numbered = eq-eqb _ _ (rw (b .place) at r)
-
-    pub rtag-cut : length o < at + 8 → Refused 3 ≡ reading o
-    unfolding verdict rtagChecks
-    rtag-cut h = comes-to (refuse 3) (simp (is-numbered, ← b .place, lt-ltb (length o) (at + 6 + 2) (omega arith)))
+  module _ (r : announces (be16 o at) ≡ true) where
+    pub tag-cut : length o < at + 8 → Refused 3 ≡ reading o
+    unfolding verdict sequenceChecks
+    tag-cut h = comes-to (refuse 3) (simp (is-sequenced r, ← b .place, lt-ltb (length o) (at + 6 + 2) (omega arith)))
 
     module _ (h : at + 8 ≤ length o) where
-      -- past the first check at an R-TAG
+      -- past the first check at a sequence tag
       whole : ltb (length o) (at + 6 + 2) ≡ false
       whole = le-ltb (length o) (at + 6 + 2) (omega arith)
 
       pub ctag-behind : be16 o (at + 6) ≡ C-TAG → Refused 4 ≡ reading o
-      unfolding verdict rtagChecks
-      ctag-behind c = comes-to (refuse 4) (simp (is-numbered, ← b .place, whole, eq-eqb _ _ c))
+      unfolding verdict sequenceChecks
+      ctag-behind c = comes-to (refuse 4) (simp (is-sequenced r, ← b .place, whole, eq-eqb _ _ c))
 
       module _ (c : be16 o (at + 6) ≡ C-TAG → ⊥) where
-        pub rtag-behind : be16 o (at + 6) ≡ R-TAG → Refused 4 ≡ reading o
-        unfolding verdict rtagChecks
-        rtag-behind e = comes-to (refuse 4) (simp (is-numbered, ← b .place, whole, ne-eqb _ _ c, eq-eqb _ _ e))
+        pub tag-behind : announces (be16 o (at + 6)) ≡ true → Refused 4 ≡ reading o
+        unfolding verdict sequenceChecks
+        tag-behind e = comes-to (refuse 4) (simp (is-sequenced r, ← b .place, whole, ne-eqb _ _ c, e))
 
-        pub with-rtag : (be16 o (at + 6) ≡ R-TAG → ⊥) → Frame (headerAt o t v true (be16 o (at + 4)) (at + 6)) ≡ reading o
-        unfolding headerAt header verdict rtagChecks number numberAt kind kindPlace payloadPlace
-        with-rtag e =
-            let clear = comes-to good (simp (is-numbered, ← b .place, whole, ne-eqb _ _ c, ne-eqb _ _ e)) in
-            rw (← clear) (simp (b .isTagged, b .isVlan, is-numbered, ← b .place))
+        pub with-tag : announces (be16 o (at + 6)) ≡ false → Frame (headerAt o t v (be16 o at) (at + 6)) ≡ reading o
+        unfolding headerAt header verdict sequenceChecks announced kind kindPlace payloadPlace
+        with-tag e =
+            let clear = comes-to good (simp (is-sequenced r, ← b .place, whole, ne-eqb _ _ c, e)) in
+            rw (← clear) (simp (b .isTagged, b .isVlan, is-sequenced r, ← b .place))

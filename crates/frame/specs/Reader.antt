@@ -11,8 +11,8 @@ use Rattle.frame.specs.declared.Header.{Header}
 use Rattle.frame.specs.declared.Reading.{Reading}
 use Rattle.frame.specs.declared.Reading.the-variants.{Frame, Refused}
 use Rattle.frame.specs.Layout as Layout
-use Rattle.frame.specs.Layout.{C-TAG, R-TAG, destination, source, tagged, vlan, tagPlace, tagLength}
-use Rattle.frame.specs.Layout.{numbered, number, kind, payloadPlace}
+use Rattle.frame.specs.Layout.{C-TAG, destination, source, tagged, vlan, tagPlace, tagLength}
+use Rattle.frame.specs.Layout.{announces, sequenced, announced, kind, payloadPlace}
 
 -- "Length 14 to 1,522": "frame under 14; over 1,522"
 unfoldable pub lengthChecks : List ℕ → List Check
@@ -22,18 +22,19 @@ lengthChecks o = ltb (length o) 14 ⇒ 1 ∷ ltb 1522 (length o) ⇒ 2 ∷ []
 unfoldable pub ctagChecks : List ℕ → List Check
 ctagChecks o = ltb (length o) 18 ⇒ 3 ∷ eqb (vlan o) 4095 ⇒ 5 ∷ eqb (be16 o 16) C-TAG ⇒ 4 ∷ []
 
--- "At an R-TAG: 3, 4": "octets end before the type after a tag"; "8100 or F1C1 after an R-TAG"
-unfoldable pub rtagChecks : List ℕ → List Check
-rtagChecks o =
+-- "At an R-TAG: 3, 4", and at an HSR tag: "octets end before the type after a tag"; "8100 or F1C1 after an R-TAG", and "3, 4 and 6 cover
+-- both, mixed too" (CR 5)
+unfoldable pub sequenceChecks : List ℕ → List Check
+sequenceChecks o =
     ltb (length o) (tagPlace o + tagLength + 2) ⇒ 3
-    ∷ (eqb (be16 o (tagPlace o + tagLength)) C-TAG || eqb (be16 o (tagPlace o + tagLength)) R-TAG) ⇒ 4
+    ∷ (eqb (be16 o (tagPlace o + tagLength)) C-TAG || announces (be16 o (tagPlace o + tagLength))) ⇒ 4
     ∷ []
 
 -- "Check 1, 2, then left to right"
 unfoldable pub checks : List ℕ → List Check
-checks o = lengthChecks o ++ (cond (tagged o) (ctagChecks o) [] ++ cond (numbered o) (rtagChecks o) [])
+checks o = lengthChecks o ++ (cond (tagged o) (ctagChecks o) [] ++ cond (sequenced o) (sequenceChecks o) [])
 
--- what is read of a good frame, in the order in which document 01 names it. "Reserved octets are .. ignored on reading"
+-- what is read of a good frame, in the order in which document 01 names it
 unfoldable pub header : List ℕ → Header
 header o =
     record {
@@ -41,8 +42,7 @@ header o =
       source = source o;
       tagged = tagged o;
       vlan = vlan o;
-      numbered = numbered o;
-      number = number o;
+      announced = announced o;
       kind = kind o;
       payload = payloadPlace o;
     }
@@ -56,12 +56,13 @@ answered (refuse n) h = Refused n
 unfoldable pub reading : List ℕ → Reading
 reading o = answered (verdict (checks o)) (header o)
 
--- what `from_tag_place` asks of its callers: all before the R-TAG's place is read and good, so that only the checks at an R-TAG are left
+-- what `from_tag_place` asks of its callers: all before the sequence tag's place is read and good, so that only the checks at such a tag are
+-- left
 pub record Before (o : List ℕ) (at : ℕ) (tagged : Bool) (vlan : ℕ) : Type 0 where
   pub place : at ≡ tagPlace o
   pub isTagged : tagged ≡ Layout.tagged o
   pub isVlan : vlan ≡ Layout.vlan o
-  pub left : verdict (checks o) ≡ verdict (cond (numbered o) (rtagChecks o) [])
+  pub left : verdict (checks o) ≡ verdict (cond (sequenced o) (sequenceChecks o) [])
 
 -- the promise of `read`
 abbrev pub Reads : List ℕ → Reading → Type 0

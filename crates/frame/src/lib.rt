@@ -7,16 +7,15 @@ mod reader;
 pub use part::payload;
 pub use reader::read;
 
-// What a frame says before its payload. An address is its six octets as one big-endian number.
+// What a frame says before its payload, whatever the encoding of its stream. An address is its six octets as one big-endian number.
 pub struct Header {
     pub destination: u64,
     pub source: u64,
     // It has a C-TAG; `vlan` is 0 without one.
     pub tagged: bool,
     pub vlan: u16,
-    // It has an R-TAG; `number` is 0 without one.
-    pub numbered: bool,
-    pub number: u16,
+    // The type that announces its sequence tag, F1C1 or 892F; 0 without one.
+    pub announced: u16,
     // The last type.
     pub kind: u16,
     // Where the payload starts.

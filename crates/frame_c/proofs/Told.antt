@@ -7,30 +7,37 @@ use Rattle.octets.specs.Copy.{fits, outputBy, Puts}
 use Rattle.octets.specs.Checks.{verdict, refusal}
 use Rattle.octets.proofs.Order.{first-check}
 use Rattle.frame.specs.declared.Header.{Header}
-use Rattle.frame.specs.declared.Reading.the-variants.{Frame, Refused}
-use Rattle.frame.specs.Reader.{header, reading}
+use Rattle.frame.specs.Reader.{header}
 use Rattle.frame.proofs.Accepted.{frame-good, read-refused, read-good}
-use Rattle.frame_c.specs.Frames.{headerWords, recordChecks, Fills, ReadsTo}
+use Rattle.encoding.specs.declared.Encoding.{Encoding}
+use Rattle.encoding.specs.declared.Sequence.{Sequence}
+use Rattle.encoding.specs.declared.Packet.the-variants.{Frame, Refused}
+use Rattle.encoding.specs.Encodings.{sequence}
+use Rattle.encoding.specs.Reader.{readingIn}
+use Rattle.encoding.proofs.Answered.{header-of, refusal-of}
+use Rattle.frame_c.specs.Frames.{written, recordChecks, Fills, ReadsTo}
 
--- a header put into a record, or no room for it
-pub room-told : {h : Header} {filled out later : List ℕ} {fitted : Bool} {r : ℕ} → Puts filled out fitted later → filled ≡ headerWords h
-    → r ≡ cond fitted 0 8 → Fills h out r later
+-- words put into a record, or no room for them
+pub room-told : {h : Header} {s : Sequence} {n : ℕ} {filled out later : List ℕ} {fitted : Bool} {r : ℕ} → Puts filled out fitted later
+    → filled ≡ written n h s → r ≡ cond fitted 0 8 → Fills h s n out r later
 room-told p e f = record { answer = f ∙ rw (p .answer, e); words = p .buffer ∙ rw e }
 
-module _ (o out : List ℕ) where
+module _ (e : Encoding) (n : ℕ) (o out : List ℕ) where
   -- a frame that reading accepts
-  pub frame-told : {h : Header} {r : ℕ} {later : List ℕ} → Frame h ≡ reading o → Fills h out r later → ReadsTo o out r later
+  pub frame-told : {h : Header} {s : Sequence} {r : ℕ} {later : List ℕ} → Frame h s ≡ readingIn e o → Fills h s n out r later
+      → ReadsTo e n o out r later
   unfolding recordChecks verdict
-  frame-told e p =
-      let is = frame-good o e .1 in
-      let words = headerWords (header o) in
+  frame-told q p =
+      let told = header-of e o q in
+      let is = frame-good o (told .0) .1 in
+      let words = written n (header o) (sequence e o) in
       let fit = fits words out in
       record {
-        answer = p .answer ∙ rw (is, read-good o _ e) (sym (first-check refusal fit 8 []));
-        words = p .words ∙ rw (is, read-good o _ e) (sym (first-check (λ v. outputBy v words out) fit 8 []));
+        answer = p .answer ∙ rw (is, told .1, read-good o _ (told .0)) (sym (first-check refusal fit 8 []));
+        words = p .words ∙ rw (is, told .1, read-good o _ (told .0)) (sym (first-check (λ v. outputBy v words out) fit 8 []));
       }
 
   -- a reading that is refused
-  pub refusal-told : {n : ℕ} → Refused n ≡ reading o → ReadsTo o out n out
+  pub refusal-told : {k : ℕ} → Refused k ≡ readingIn e o → ReadsTo e n o out k out
   unfolding recordChecks
-  refusal-told e = record { answer = rw (read-refused o _ e); words = rw (read-refused o _ e) }
+  refusal-told q = let r = refusal-of e o q in record { answer = rw (read-refused o _ r); words = rw (read-refused o _ r) }

@@ -1,23 +1,28 @@
-// The R-TAG put in (document 01, "Reading a frame"): the result goes to a second buffer.
+// A tag or a trailer put in (document 01, "Reading a frame"; document 02, CR 5): the result goes to a second buffer.
+use encoding::Encoding;
 use frame::Reading;
 use tag::Written;
 ghost use mathlib.Core.Path.{_≡_};
 ghost use Prim.Native.Nat.{_+_, _≤_};
-ghost use mathlib.Core.Bool.{true};
+ghost use mathlib.Core.Bool.{true, cond};
 ghost use mathlib.Core.List.{_++_};
 ghost use lib.ListN.{length};
 ghost use Rattle.octets.specs.Copy.{putIn, Puts};
-ghost use Rattle.frame.specs.Layout.{tag};
+ghost use Rattle.encoding.specs.Encodings.{inFront};
 ghost use Rattle.tag.specs.Insertion.{Inserts, insertedAt};
 
-// Writes the frame with an R-TAG of that number to `out`.
-pub fn insert(frame: &[u8], number: u16, out: &mut [u8]) -> Written
-    ensures { λ r. ⌜ Inserts (now (frame .entry)) number (now (out .entry)) r (now (out .exit)) ⌝ }
+// Writes the frame with that number and path or LAN id to `out`, in the encoding of its stream.
+pub fn insert(frame: &[u8], encoding: Encoding, number: u16, path: u8, out: &mut [u8]) -> Written
+    ensures { λ r. ⌜ Inserts encoding (now (frame .entry)) number path (now (out .entry)) r (now (out .exit)) ⌝ }
 {
     match frame::read(frame) {
         Reading::Refused(no) => Written::Refused(no),
         Reading::Frame(h) => {
-            if h.numbered {
+            let there = in_the_way(encoding, h.announced);
+            if 15 < path {
+                return Written::Refused(37);
+            }
+            if 0 < there {
                 return Written::Refused(6);
             }
             let n = frame.len() + 6;
@@ -27,33 +32,39 @@ pub fn insert(frame: &[u8], number: u16, out: &mut [u8]) -> Written
             if out.len() < n {
                 return Written::Refused(8);
             }
-            write_with(frame, h.payload - 2, number, out);
+            let at = encoding::place(encoding, h.payload - 2, frame.len());
+            let six = encoding::octets_of(encoding, number, path, (n - h.payload) as u16);
+            write_with(frame, at, six, out);
             Written::Length(n)
         }
     }
 }
 
-// The octets before the tag's place, and then the tag with those behind it.
-fn write_with(frame: &[u8], at: usize, number: u16, out: &mut [u8])
+// The type that announces a tag where one is to be put, 0 where none does; a trailer always has its place.
+fn in_the_way(encoding: Encoding, announced: u16) -> u16
+    ensures { λ r. ⌜ r ≡ cond (inFront encoding) announced 0 ⌝ }
+{
+    if encoding::in_front(encoding) {
+        announced
+    } else {
+        0
+    }
+}
+
+// The octets before a place, and then six others with those behind it.
+fn write_with(frame: &[u8], at: usize, six: [u8; 6], out: &mut [u8])
     requires { ⌜ (at ≤ length (now frame)) × (length (now frame) + 6 ≤ length (now out)) ⌝ }
-    ensures { λ _. ⌜ now (out .exit) ≡ putIn (insertedAt (now (frame .entry)) at number) (now (out .entry)) ⌝ }
+    ensures { λ _. ⌜ now (out .exit) ≡ putIn (insertedAt (now (frame .entry)) at six) (now (out .entry)) ⌝ }
 {
     octets::put(&frame[..at], out);
-    write_tagged(&frame[at..], number, &mut out[at..]);
+    write_tagged(&frame[at..], six, &mut out[at..]);
 }
 
-// The tag and the octets behind it, as one copy would put them.
-fn write_tagged(rest: &[u8], number: u16, out: &mut [u8])
+// The six and the octets behind them, as one copy would put them.
+fn write_tagged(rest: &[u8], six: [u8; 6], out: &mut [u8])
     requires { ⌜ length (now rest) + 6 ≤ length (now out) ⌝ }
-    ensures { λ _. ⌜ Puts (tag number ++ now (rest .entry)) (now (out .entry)) true (now (out .exit)) ⌝ }
+    ensures { λ _. ⌜ Puts (six ++ now (rest .entry)) (now (out .entry)) true (now (out .exit)) ⌝ }
 {
-    octets::put(&r_tag(number), out);
+    octets::put(&six, out);
     octets::put(rest, &mut out[6..]);
-}
-
-// An R-TAG's six octets: F1 C1, the reserved two, the number.
-fn r_tag(number: u16) -> [u8; 6]
-    ensures { λ r. ⌜ r ≡ tag number ⌝ }
-{
-    [0xF1, 0xC1, 0, 0, (number / 256) as u8, (number % 256) as u8]
 }

@@ -1,17 +1,21 @@
--- A tag does not change which stream a frame belongs to (`specs/SameStream`): no entry asks for what it changes. Assumes nothing.
-use Prim.Native.Nat.{ℕ, _<_}
+-- A tag or a trailer does not change which stream a frame belongs to (`specs/SameStream`): no entry asks for what it changes. Assumes
+-- nothing.
+use Prim.Native.Nat.{ℕ}
 use mathlib.Core.Path.{_≡_, refl, sym, _∙_}
 use mathlib.Core.Bool.{false}
 use mathlib.Core.List.{List, [], _∷_}
 use lib.ListN.{length}
-use Rattle.octets.specs.Checks.{good, verdict}
+use Rattle.octets.specs.Checks.{verdict}
+use Rattle.octets.proofs.Bools.{by-cases}
 use Rattle.frame.specs.declared.Header.{Header}
 use Rattle.frame.specs.declared.Reading.the-variants.{Frame}
 use Rattle.frame.specs.Reader.{reading}
 use Rattle.frame.proofs.Accepted.{good-frame}
+use Rattle.encoding.specs.declared.Encoding.{Encoding}
+use Rattle.encoding.specs.Encodings.{inFront}
 use Rattle.tag.specs.Insertion.{inserted, insertChecks}
 use Rattle.tag.specs.Removal.{removed, removeChecks}
-use Rattle.tag.specs.RoundTrip.{withNumber, withoutNumber}
+use Rattle.tag.specs.RoundTrip.{retagged, withTag, withoutTag}
 use Rattle.tag.proofs.RoundTrip.{insertable, removable, inserted-reads, removed-reads}
 use Rattle.tag.proofs.Trips.{wrote}
 use Rattle.entry.specs.Matching.{allows, addressOf, matches}
@@ -27,8 +31,7 @@ asked h =
       source = h .source;
       tagged = h .tagged;
       vlan = h .vlan;
-      numbered = false;
-      number = 0;
+      announced = 0;
       kind = 0;
       payload = 0;
     }
@@ -45,24 +48,26 @@ lookup-asked t o p {h} {g} e f same =
     let found : firstMatch (entries t) h ≡ firstMatch (entries t) g = match-asked _ h ∙ rw same (sym (match-asked _ g)) in
     sym (walk-answers t o e) ∙ (rw found (walk-answers t p f))
 
-same-inserted : (t o : List ℕ) (n room : ℕ) → n < 65536 → verdict (insertChecks o room) ≡ good
-    → lookupOf t (inserted o n) ≡ lookupOf t o
-unfolding withNumber asked
-same-inserted t o n room small ok =
-    let e = good-frame o (insertable o room ok .reads) in lookup-asked t (inserted o n) o (inserted-reads o n room ok small e) e refl
+-- what a tag or a trailer changes in a header is not asked
+asked-tagged : (e : Encoding) (h : Header) → asked (withTag e h) ≡ asked h
+unfolding withTag retagged asked
+asked-tagged e h = by-cases (inFront e) (λ f. rw f) (λ f. rw f)
 
-same-removed : (t o : List ℕ) (room : ℕ) → verdict (removeChecks o room) ≡ good → lookupOf t (removed o) ≡ lookupOf t o
-unfolding withoutNumber asked
-same-removed t o room ok =
-    let e = good-frame o (removable o room ok .reads) in lookup-asked t (removed o) o (removed-reads o room ok e) e refl
+asked-untagged : (e : Encoding) (h : Header) → asked (withoutTag e h) ≡ asked h
+unfolding withoutTag retagged asked
+asked-untagged e h = by-cases (inFront e) (λ f. rw f) (λ f. rw f)
 
 -- as a caller meets it
 pub same-when-inserted : SameWhenInserted
-same-when-inserted t o n out k later r small p q =
-    let w = wrote (verdict (insertChecks o (length out))) p in
-    rw (w .written) at q ∙ same-inserted t o n (length out) small (w .accepted)
+same-when-inserted t e o n id out k later r p q =
+    let w = wrote (verdict (insertChecks e o id (length out))) p in
+    let was = good-frame o (insertable e o id (length out) (w .accepted) .reads) in
+    let is = inserted-reads e o n id (length out) (w .accepted) was in
+    rw (w .written) at q ∙ lookup-asked t (inserted e o n id) o is was (asked-tagged e _)
 
 pub same-when-removed : SameWhenRemoved
-same-when-removed t o out k later r p q =
-    let w = wrote (verdict (removeChecks o (length out))) p in
-    rw (w .written) at q ∙ same-removed t o (length out) (w .accepted)
+same-when-removed t e o out k later r p q =
+    let w = wrote (verdict (removeChecks e o (length out))) p in
+    let was = good-frame o (removable e o (length out) (w .accepted) .reads) in
+    let is = removed-reads e o (length out) (w .accepted) was in
+    rw (w .written) at q ∙ lookup-asked t (removed e o) o is was (asked-untagged e _)

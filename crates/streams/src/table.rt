@@ -91,8 +91,7 @@ fn no_frame() -> Header {
         source: 0,
         tagged: false,
         vlan: 0,
-        numbered: false,
-        number: 0,
+        announced: 0,
         kind: 0,
         payload: 0,
     }

@@ -4,3 +4,4 @@ pub mod Unique
 pub mod Alike
 pub mod RoundTrip
 pub mod Trips
+pub mod AsBefore

@@ -1,188 +1,386 @@
--- The round trips of the octets: put in, then taken off, gives the first frame; taken off, then put in with the same number, gives it
--- exactly where the reserved octets were zero; and what the frames read as on the way. Trips says it of the calls. Assumes nothing.
-use Prim.Native.Nat.{ℕ, zero, suc, _+_, _-_, _*_, _≤_, _<_}
+-- The round trips of the octets: put in, then taken off, gives the first frame; taken off, then put in with the same number and id, gives it
+-- exactly where the word between was as insertion writes it; and what the frames read as on the way. Trips says it of the calls. Assumes
+-- nothing.
+use Prim.Native.Nat.{ℕ, _+_, _-_, _≤_, _<_}
 use native.Mathlib.Omega.{arith}
 use mathlib.Core.Path.{_≡_, refl, sym, _∙_, ap}
-use mathlib.Core.Bool.{true, false}
+use mathlib.Core.Bool.{true, false, false≢true, _&&_}
 use mathlib.Core.List.{List, _++_}
-use lib.ListN.{length, getD, take, drop, length-drop}
-use lib.Seq.{length-take-le, ext-getD, getD-take, getD-drop}
-use borrow.Author.Tests.{ltb-false, le-ltb, eqb-true, not-false}
+use lib.ListN.{length, getD, take, drop}
+use lib.Dec.{leb}
+use borrow.Author.Tests.{ltb-false, le-ltb, le-leb, eqb-true, eq-eqb, ne-eqb, not-false}
 use Rattle.octets.specs.Number.{be16}
 use Rattle.octets.specs.Checks.{good, verdict, _then_}
+use Rattle.octets.proofs.Bools.{by-cases}
 use Rattle.octets.proofs.Order.{verdict-append, clear, both-good}
 use Rattle.frame.specs.declared.Header.{Header}
 use Rattle.frame.specs.declared.Reading.the-variants.{Frame}
-use Rattle.frame.specs.Layout.{C-TAG, R-TAG, tagged, vlan, tagPlace, numbered, number, numberAt, reservedAt, tag, kindPlace, payloadPlace}
+use Rattle.frame.specs.Layout.{C-TAG, tagged, vlan, tagPlace, announces, sequenced, payloadPlace, payloadLength}
 use Rattle.frame.specs.Reader.{Before, checks, header, reading}
+use Rattle.frame.proofs.Accepted.{most, frame-good, good-frame, payload-within, payload-bare, behind-tag, good-before, no-ctag}
+use Rattle.encoding.specs.declared.Encoding.{Encoding}
+use Rattle.encoding.specs.declared.Encoding.the-variants.{RTag, Hsr, Prp}
+use Rattle.encoding.specs.Encodings.{inFront, place, mark, idAndSize, idWord, words, six, trails, carries, standing, numberAt, idIn}
+use Rattle.encoding.specs.Encodings.{numbered, unnumbered, sequence}
+use Rattle.encoding.proofs.Carried.{mark-announces, carries-front, carries-back, carried-sequenced, starts, trailed, standing-within, number-within}
+use Rattle.encoding.proofs.ThreeWords.{size-between, six-long, mark-first, mark-last, id-between, number-there}
 use Rattle.tag.specs.Insertion.{inserted, insertChecks}
 use Rattle.tag.specs.Removal.{removed, removeChecks}
-use Rattle.tag.specs.RoundTrip.{withNumber, withoutNumber}
-use Rattle.frame.proofs.Accepted.{most, frame-good, good-frame, payload-within, behind-rtag, good-before, no-tag}
-use Rattle.tag.proofs.Splice.{Tagging, length-inserted, inserting, number-inserted, reserved-zero, put-off}
-use Rattle.tag.proofs.Splice.{length-removed, removing, off-put, with-own-tag}
-use Rattle.tag.proofs.Alike.{word-behind, before-in, before-off, reads-in, reads-off}
+use Rattle.tag.specs.RoundTrip.{AsWritten, retagged, withTag, withoutTag, idRead}
+use Rattle.tag.proofs.Splice.{Spliced, length-inserted, word-in, inserting, put-off, removing, off-put, with-own-six, six-of-words}
+use Rattle.tag.proofs.Alike.{no-type-of-both, before-alike, word-behind, reads-in, reads-off, same-reading}
 
--- what an accepted insertion says of the frame and the room
-pub record Insertable (o : List ℕ) (room : ℕ) : Type 0 where
+-- what an accepted insertion says of the frame, the id and the room
+pub record Insertable (e : Encoding) (o : List ℕ) (id room : ℕ) : Type 0 where
   pub reads : verdict (checks o) ≡ good
-  pub bare : numbered o ≡ false
+  pub small : id ≤ 15
+  pub free : (inFront e && sequenced o) ≡ false
   pub short : length o + 6 ≤ 1522
   pub fits : length o + 6 ≤ room
 
-pub insertable : (o : List ℕ) (room : ℕ) → verdict (insertChecks o room) ≡ good → Insertable o room
+pub insertable : (e : Encoding) (o : List ℕ) (id room : ℕ) → verdict (insertChecks e o id room) ≡ good → Insertable e o id room
 unfolding insertChecks
-insertable o room e =
-    let g = both-good _ _ (sym (verdict-append (checks o) _) ∙ e) in
-    let n = clear _ _ _ (g .1) in
+insertable e o id room a =
+    let g = both-good _ _ (sym (verdict-append (checks o) _) ∙ a) in
+    let i = clear _ _ _ (g .1) in
+    let n = clear _ _ _ (i .1) in
     let s = clear _ _ _ (n .1) in
-    record { reads = g .0; bare = n .0; short = ltb-false _ _ (s .0); fits = ltb-false _ _ (clear _ _ _ (s .1) .0) }
+    record {
+      reads = g .0;
+      small = ltb-false _ _ (i .0);
+      free = n .0;
+      short = ltb-false _ _ (s .0);
+      fits = ltb-false _ _ (clear _ _ _ (s .1) .0);
+    }
 
 -- and an accepted removal
-pub record Removable (o : List ℕ) (room : ℕ) : Type 0 where
+pub record Removable (e : Encoding) (o : List ℕ) (room : ℕ) : Type 0 where
   pub reads : verdict (checks o) ≡ good
-  pub numbered : numbered o ≡ true
+  pub carried : carries e o ≡ true
   pub fits : length o - 6 ≤ room
 
-pub removable : (o : List ℕ) (room : ℕ) → verdict (removeChecks o room) ≡ good → Removable o room
+pub removable : (e : Encoding) (o : List ℕ) (room : ℕ) → verdict (removeChecks e o room) ≡ good → Removable e o room
 unfolding removeChecks
-removable o room e =
-    let g = both-good _ _ (sym (verdict-append (checks o) _) ∙ e) in
+removable e o room a =
+    let g = both-good _ _ (sym (verdict-append (checks o) _) ∙ a) in
     let n = clear _ _ _ (g .1) in
-    record { reads = g .0; numbered = not-false _ (n .0); fits = ltb-false _ _ (clear _ _ _ (n .1) .0) }
+    record { reads = g .0; carried = not-false _ (n .0); fits = ltb-false _ _ (clear _ _ _ (n .1) .0) }
+
+-- the id that is read of the word that was written
+id-read : (e : Encoding) (id size : ℕ) → id ≤ 15 → idIn e (idWord e id size) ≡ idRead e id
+unfolding idIn idWord idAndSize idRead
+id-read RTag id size s = refl
+id-read Hsr id size s = omega arith
+id-read Prp id size s = omega arith
+
+-- an id has four bits
+id-below : (e : Encoding) (word : ℕ) → word < 65536 → idIn e word ≤ 15
+unfolding idIn
+id-below RTag word s = omega arith
+id-below Hsr word s = omega arith
+id-below Prp word s = omega arith
+
+word-below : (o : List ℕ) → ((k : ℕ) → getD o k 0 < 256) → (at : ℕ) → be16 o at < 65536
+unfolding be16
+word-below o octets at = omega (arith, octets at, octets (at + 1))
 
 -- put in
-module _ (o : List ℕ) (n room : ℕ) (accepted : verdict (insertChecks o room) ≡ good) where
-  ins : Insertable o room
-  ins = insertable o room accepted
+module _ (e : Encoding) (o : List ℕ) (n id room : ℕ) (accepted : verdict (insertChecks e o id room) ≡ good) where
+  ins : Insertable e o id room
+  ins = insertable e o id room accepted
 
-  within : tagPlace o + 2 ≤ length o
-  unfolding payloadPlace kindPlace
-  within = simp (ins .bare) at (payload-within o (ins .reads))
+  at : ℕ
+  at = place e (tagPlace o) (length o)
 
-  tagging : Tagging o (inserted o n) (tagPlace o)
-  unfolding inserted
-  tagging = inserting o (tagPlace o) n (omega (arith, within))
+  size : ℕ
+  size = payloadLength o + 6
 
-  above : Before (inserted o n) (tagPlace o) (tagged o) (vlan o)
-  above = before-in tagging (ins .reads) (ins .short) refl
+  -- a tag: there is none yet, and its place lies within the frame
+  module _ (f : inFront e ≡ true) where
+    no-tag : sequenced o ≡ false
+    no-tag = rw f at (ins .free)
 
-  -- an inserted frame reads as the first one did but for its number
-  pub inserted-reads : n < 65536 → {h : Header} → Frame h ≡ reading o → Frame (withNumber h n) ≡ reading (inserted o n)
-  unfolding inserted
-  inserted-reads small e =
-      let g = no-tag o (ins .reads) (ins .bare) in
-      let r = reads-in tagging (good-before o (ins .reads)) above (g .0) (g .1) (omega (arith, within, tagging .long)) e in
-      rw (number-inserted o (tagPlace o) n (omega (arith, within)) small) at r
+    bare-type : announces (be16 o (tagPlace o)) ≡ false
+    unfolding sequenced
+    bare-type = no-tag
+
+    type-within : tagPlace o + 2 ≤ length o
+    type-within = omega (arith, payload-bare o no-tag, payload-within o (ins .reads))
+
+    at-front : at ≡ tagPlace o
+    unfolding at place
+    at-front = rw f
+
+  at-back : inFront e ≡ false → at ≡ length o
+  unfolding at place
+  at-back f = rw f
+
+  within : at ≤ length o
+  within =
+      by-cases (inFront e) (λ f. omega (arith, at-front f, type-within f)) (λ f. omega (arith, at-back f))
+
+  splice : Spliced o (inserted e o n id) at
+  unfolding inserted at
+  splice = inserting o (six e n id (payloadLength o + 6)) at (six-long e n id (payloadLength o + 6)) within
+
+  -- the words that were put in
+  word-put : (k : ℕ) → k + 1 < 6 → be16 (inserted e o n id) (at + k) ≡ be16 (six e n id size) k
+  unfolding inserted at size
+  word-put = word-in o (six e n id (payloadLength o + 6)) at (six-long e n id (payloadLength o + 6)) within
+
+  -- a tag: what stands at its place now
+  module _ (f : inFront e ≡ true) where
+    announced-there : be16 (inserted e o n id) (tagPlace o) ≡ mark e
+    announced-there =
+        let p : at + 0 ≡ tagPlace o = omega (arith, at-front f) in
+        rw (← p) (word-put 0 (omega arith) ∙ mark-first e n id size f)
+
+    front-splice : Spliced o (inserted e o n id) (tagPlace o)
+    front-splice = rw (at-front f) at splice
+
+    front-before : Before (inserted e o n id) (tagPlace o) (tagged o) (vlan o)
+    front-before =
+        before-alike o (inserted e o n id) (ins .reads) (record { octet = front-splice .before })
+        (omega (arith, type-within f, splice .long))
+        (omega (arith, ins .short, splice .long))
+        (λ z. no-type-of-both (mark-announces e f) (sym announced-there ∙ z))
+
+    front-reads : {h : Header} → Frame h ≡ reading o → Frame (retagged h (mark e) (h .payload + 6)) ≡ reading (inserted e o n id)
+    front-reads r =
+        rw (announced-there)
+        at (reads-in front-splice (good-before o (ins .reads)) front-before (rw announced-there (mark-announces e f)) (no-ctag o (ins .reads))
+        (bare-type f)
+        (omega (arith, type-within f, splice .long))
+        r)
+
+  -- a trailer: all before it is as it was
+  module _ (f : inFront e ≡ false) where
+    back-reads : reading (inserted e o n id) ≡ reading o
+    back-reads =
+        let p = payload-within o (ins .reads) in
+        same-reading o (inserted e o n id) (ins .reads) (record { octet = λ k h. splice .before k (omega (arith, at-back f)) })
+        (omega (arith, splice .long))
+        (omega (arith, ins .short, splice .long))
+
+    back-length : payloadLength (inserted e o n id) ≡ size
+    unfolding payloadLength size
+    back-length =
+        let r = good-frame o (ins .reads) in
+        let was = starts o r in
+        let is = starts (inserted e o n id) (r ∙ sym back-reads) in
+        omega (arith, was, is, splice .long, payload-within o (ins .reads))
+
+  -- an inserted frame reads as the first one did
+  pub inserted-reads : {h : Header} → Frame h ≡ reading o → Frame (withTag e h) ≡ reading (inserted e o n id)
+  unfolding withTag
+  inserted-reads r = by-cases (inFront e) (λ f. rw f (front-reads f r)) (λ f. rw f (r ∙ sym (back-reads f)))
+
+  inserted-standing : standing e (inserted e o n id) ≡ at
+  unfolding standing place at
+  inserted-standing =
+      by-cases (inFront e) (λ f. rw f (sym (front-before f .place))) (λ f. rw f (omega (arith, splice .long)))
+
+  small-size : size < 4096
+  unfolding size payloadLength
+  small-size = omega (arith, ins .short)
+
+  six-more : leb 6 size ≡ true
+  unfolding size
+  six-more = le-leb 6 size (omega arith)
+
+  back-trails : inFront e ≡ false → trails (inserted e o n id) (mark e) size ≡ true
+  unfolding trails
+  back-trails f =
+      let last : length (inserted e o n id) - 2 ≡ at + 4 = omega (arith, splice .long, at-back f) in
+      let between : length (inserted e o n id) - 4 ≡ at + 2 = omega (arith, splice .long, at-back f) in
+      let marked = word-put 4 (omega arith) ∙ mark-last e n id size f in
+      let sized = word-put 2 (omega arith) ∙ id-between e n id size in
+      simp (last, between, marked, sized, size-between e id size f small-size, six-more, eq-eqb (mark e) (mark e) refl, eq-eqb size size refl)
+
+  inserted-carries : carries e (inserted e o n id) ≡ true
+  inserted-carries =
+      by-cases (inFront e)
+      (λ f. carries-front e (inserted e o n id) f ∙ eq-eqb _ (mark e) (rw (← front-before f .place) (announced-there f)))
+      (λ f. carries-back e (inserted e o n id) f ∙ rw (back-length f) (back-trails f))
+
+  -- it carries the number and the id
+  pub inserted-sequence : sequence e (inserted e o n id) ≡ numbered n (idRead e id)
+  unfolding sequence
+  inserted-sequence =
+      let number = word-put (numberAt e) (omega (arith, number-within e)) ∙ number-there e n id size in
+      let between = word-put 2 (omega arith) ∙ id-between e n id size in
+      simp (inserted-carries, inserted-standing, number, between, id-read e id size (ins .small))
 
   -- put in, then taken off, gives the first frame
-  pub inserted-removed : removed (inserted o n) ≡ o
-  unfolding removed inserted
-  inserted-removed = rw (← above .place) (put-off o (tagPlace o) n (omega (arith, within)))
+  pub inserted-removed : removed e (inserted e o n id) ≡ o
+  unfolding removed inserted at
+  inserted-removed = rw inserted-standing (put-off o (six e n id (payloadLength o + 6)) at (six-long e n id (payloadLength o + 6)) within)
 
   -- and removal takes it
-  pub inserted-removable : n < 65536 → (room′ : ℕ) → length o ≤ room′ → verdict (removeChecks (inserted o n) room′) ≡ good
-  unfolding removeChecks verdict _then_ withNumber header
-  inserted-removable small room′ l =
-      let g = frame-good (inserted o n) (inserted-reads small (good-frame o (ins .reads))) in
-      let is = ap (λ (h : Header). h .numbered) (g .1) in
-      simp (verdict-append, g .0, ← is, le-ltb room′ (length (inserted o n) - 6) (omega (arith, tagging .long)))
+  pub inserted-removable : (room′ : ℕ) → length o ≤ room′ → verdict (removeChecks e (inserted e o n id) room′) ≡ good
+  unfolding removeChecks verdict _then_
+  inserted-removable room′ l =
+      let g = frame-good (inserted e o n id) (inserted-reads (good-frame o (ins .reads))) in
+      simp (verdict-append, g .0, inserted-carries, le-ltb room′ (length (inserted e o n id) - 6) (omega (arith, splice .long)))
 
 -- taken off
-module _ (o : List ℕ) (room : ℕ) (accepted : verdict (removeChecks o room) ≡ good) where
-  rem : Removable o room
-  rem = removable o room accepted
+module _ (e : Encoding) (o : List ℕ) (room : ℕ) (accepted : verdict (removeChecks e o room) ≡ good) where
+  rem : Removable e o room
+  rem = removable e o room accepted
 
-  behind : (tagPlace o + 6 + 2 ≤ length o) × (be16 o (tagPlace o + 6) ≡ C-TAG → ⊥) × (be16 o (tagPlace o + 6) ≡ R-TAG → ⊥)
-  behind = behind-rtag o (rem .reads) (rem .numbered)
+  six-within : standing e o + 6 ≤ length o
+  six-within = standing-within e o (rem .reads) (rem .carried)
 
-  untagging : Tagging (removed o) o (tagPlace o)
-  unfolding removed numbered
-  untagging = removing o (tagPlace o) (omega (arith, behind .0)) (eqb-true _ _ (rem .numbered))
+  unsplice : Spliced (removed e o) o (standing e o)
+  unfolding removed
+  unsplice = removing o (standing e o) six-within
 
-  below : Before (removed o) (tagPlace o) (tagged o) (vlan o)
-  below = before-off untagging (rem .reads) (rem .numbered) refl
+  -- a tag: a type that is no tag stands behind it, and comes to stand at its place
+  module _ (f : inFront e ≡ true) where
+    standing-front : standing e o ≡ tagPlace o
+    unfolding standing place
+    standing-front = rw f
 
-  type-behind : be16 o (tagPlace o + 6) ≡ be16 (removed o) (tagPlace o)
-  type-behind = word-behind untagging (tagPlace o) (omega arith)
+    there : sequenced o ≡ true
+    there = carried-sequenced e o f (rem .carried)
 
-  -- a frame with its tag taken off reads as before, without a number
-  pub removed-reads : {h : Header} → Frame h ≡ reading o → Frame (withoutNumber h) ≡ reading (removed o)
-  removed-reads e =
-      reads-off
-      untagging
-      below
-      (good-before o (rem .reads))
-      (λ x. behind .1 (type-behind ∙ x))
-      (λ x. behind .2 (type-behind ∙ x))
-      (omega (arith, behind .0))
-      e
+    behind : (tagPlace o + 6 + 2 ≤ length o) × (be16 o (tagPlace o + 6) ≡ C-TAG → ⊥) × (announces (be16 o (tagPlace o + 6)) ≡ false)
+    behind = behind-tag o (rem .reads) there
 
-  -- and insertion takes it
-  pub removed-insertable : (room′ : ℕ) → length o ≤ room′ → verdict (insertChecks (removed o) room′) ≡ good
-  unfolding insertChecks verdict _then_ withoutNumber header
-  removed-insertable room′ l =
-      let g = frame-good (removed o) (removed-reads (good-frame o (rem .reads))) in
-      let is = ap (λ (h : Header). h .numbered) (g .1) in
+    front-unsplice : Spliced (removed e o) o (tagPlace o)
+    front-unsplice = rw standing-front at unsplice
+
+    type-moved : be16 o (tagPlace o + 6) ≡ be16 (removed e o) (tagPlace o)
+    type-moved = word-behind front-unsplice (tagPlace o) (omega arith)
+
+    front-below : Before (removed e o) (tagPlace o) (tagged o) (vlan o)
+    front-below =
+        before-alike o (removed e o) (rem .reads) (record { octet = λ k h. sym (front-unsplice .before k h) })
+        (omega (arith, behind .0, unsplice .long))
+        (omega (arith, most o (rem .reads), unsplice .long))
+        (λ z. behind .1 (type-moved ∙ z))
+
+    front-reads-off : {h : Header} → Frame h ≡ reading o → Frame (retagged h 0 (h .payload - 6)) ≡ reading (removed e o)
+    unfolding sequenced
+    front-reads-off r =
+        reads-off front-unsplice front-below (good-before o (rem .reads)) there (λ z. behind .1 (type-moved ∙ z)) (rw type-moved at (behind .2))
+        (omega (arith, behind .0))
+        r
+
+    -- so it has no tag
+    front-bare : announces (be16 (removed e o) (tagPlace (removed e o))) ≡ false
+    front-bare = rw (← front-below .place) (rw type-moved at (behind .2))
+
+    front-uncarried : carries e (removed e o) ≡ false
+    front-uncarried =
+        carries-front e (removed e o) f
+        ∙ ne-eqb _ (mark e) (λ z. false≢true (sym (rw z at front-bare) ∙ mark-announces e f))
+
+  -- a trailer: all before it stays as it was
+  module _ (f : inFront e ≡ false) where
+    standing-back : standing e o ≡ length o - 6
+    unfolding standing place
+    standing-back = rw f
+
+    payload-before : payloadPlace o + 6 ≤ length o
+    unfolding payloadLength
+    payload-before = omega (arith, trailed e o (rem .reads) (rem .carried) f .0)
+
+    back-reads-off : reading (removed e o) ≡ reading o
+    back-reads-off =
+        same-reading o (removed e o) (rem .reads)
+        (record { octet = λ k h. sym (unsplice .before k (omega (arith, standing-back, payload-before))) })
+        (omega (arith, unsplice .long, payload-before))
+        (omega (arith, most o (rem .reads), unsplice .long))
+
+  -- a frame with its tag or trailer taken off reads as before
+  pub removed-reads : {h : Header} → Frame h ≡ reading o → Frame (withoutTag e h) ≡ reading (removed e o)
+  unfolding withoutTag
+  removed-reads r = by-cases (inFront e) (λ f. rw f (front-reads-off f r)) (λ f. rw f (r ∙ sym (back-reads-off f)))
+
+  -- and without a number, but for another trailer
+  pub removed-unnumbered : inFront e ≡ true → sequence e (removed e o) ≡ unnumbered
+  unfolding sequence
+  removed-unnumbered f = rw (front-uncarried f)
+
+  -- insertion takes it
+  pub removed-insertable : (id room′ : ℕ) → id ≤ 15 → length o ≤ room′ → verdict (insertChecks e (removed e o) id room′) ≡ good
+  unfolding insertChecks verdict _then_ sequenced
+  removed-insertable id room′ small l =
+      let g = frame-good (removed e o) (removed-reads (good-frame o (rem .reads))) in
       let m = most o (rem .reads) in
+      let free : (inFront e && announces (be16 (removed e o) (tagPlace (removed e o)))) ≡ false =
+      by-cases (inFront e) (λ f. rw f (front-bare f)) (λ f. rw f) in
       simp (
         verdict-append,
         g .0,
-        ← is,
-        le-ltb 1522 (length (removed o) + 6) (omega (arith, untagging .long)),
-        le-ltb room′ (length (removed o) + 6) (omega (arith, untagging .long)),
+        le-ltb 15 id small,
+        free,
+        le-ltb 1522 (length (removed e o) + 6) (omega (arith, unsplice .long)),
+        le-ltb room′ (length (removed e o) + 6) (omega (arith, unsplice .long)),
       )
 
-  put-back : inserted (removed o) (number o) ≡ take (tagPlace o) o ++ (tag (number o) ++ drop (tagPlace o + 6) o)
+  -- put in again at the place where they stood
+  same-place : place e (tagPlace (removed e o)) (length (removed e o)) ≡ standing e o
+  unfolding standing place
+  same-place =
+      by-cases (inFront e) (λ f. rw f (sym (front-below f .place))) (λ f. rw f (omega (arith, unsplice .long)))
+
+  put-back : (n id : ℕ)
+      → inserted e (removed e o) n id
+      ≡ take (standing e o) o ++ (six e n id (payloadLength (removed e o) + 6) ++ drop (standing e o + 6) o)
   unfolding inserted removed
-  put-back = rw (← below .place) (off-put o (tagPlace o) (omega (arith, behind .0)) (number o))
+  put-back n id = rw same-place (off-put o (standing e o) six-within (six e n id (payloadLength (removed e o) + 6)))
 
-  pub removed-inserted-length : length (inserted (removed o) (number o)) ≡ length o
+  pub removed-inserted-length : (n id : ℕ) → length (inserted e (removed e o) n id) ≡ length o
   unfolding inserted
-  removed-inserted-length =
-      rw (← below .place) (length-inserted (removed o) (tagPlace o) (number o) (untagging .within) ∙ sym (untagging .long))
+  removed-inserted-length n id =
+      let size = payloadLength (removed e o) + 6 in
+      rw same-place
+      (length-inserted (removed e o) (six e n id size) (standing e o) (six-long e n id size) (unsplice .within) ∙ sym (unsplice .long))
 
-  -- the octets of the tag that was there, where the reserved ones are zero
-  module _ (octets : (k : ℕ) → getD o k 0 < 256) (z : reservedAt o (tagPlace o) ≡ 0) where
-    own-octet : (k : ℕ) → k < 6 → getD o (tagPlace o + k) 0 ≡ getD (tag (number o)) k 0
-    unfolding tag number numberAt reservedAt be16
-    own-octet k h = six k h
-      where
-        p : ℕ
-        p = tagPlace o
+  -- the words that stood there: a tag's type first and its number last, and a trailer's the other way round
+  module _ (f : inFront e ≡ true) where
+    mark-stood : be16 o (standing e o) ≡ mark e
+    mark-stood = rw (standing-front f) (eqb-true _ (mark e) (sym (carries-front e o f) ∙ rem .carried))
 
-        announced : getD o p 0 * 256 + getD o (p + 1) 0 ≡ R-TAG
-        announced = untagging .announced
+    number-stood : be16 o (standing e o + 4) ≡ sequence e o .number
+    unfolding sequence numberAt
+    number-stood = rw (rem .carried, f) refl
 
-        numbers : number o ≡ getD o (p + 4) 0 * 256 + getD o (p + 4 + 1) 0
-        numbers = simp (rem .numbered)
+  module _ (f : inFront e ≡ false) where
+    suffix-stood : be16 o (standing e o + 4) ≡ mark e
+    suffix-stood =
+        let last : standing e o + 4 ≡ length o - 2 = omega (arith, standing-back f, six-within) in
+        rw last (trailed e o (rem .reads) (rem .carried) f .1)
 
-        six : (k : ℕ) → k < 6 → getD o (p + k) 0 ≡ getD (tag (number o)) k 0
-        six zero h = let e : p + 0 ≡ p = omega arith in rw e (omega (arith, announced, octets (p + 1)))
-        six (suc zero) h = omega (arith, announced, octets (p + 1))
-        six (suc (suc zero)) h = omega (arith, z)
-        six (suc (suc (suc zero))) h = let e : p + 3 ≡ p + 2 + 1 = omega arith in rw e (omega (arith, z))
-        six (suc (suc (suc (suc zero)))) h = omega (arith, numbers, octets (p + 4 + 1))
-        six (suc (suc (suc (suc (suc zero))))) h =
-            let e : p + 5 ≡ p + 4 + 1 = omega arith in rw e (omega (arith, numbers, octets (p + 4 + 1)))
-        six (suc (suc (suc (suc (suc (suc k)))))) h = omega arith
+    number-led : be16 o (standing e o) ≡ sequence e o .number
+    unfolding sequence numberAt
+    number-led = let e′ : standing e o + 0 ≡ standing e o = omega arith in rw (rem .carried, f, e′) refl
 
-    own-tag : take 6 (drop (tagPlace o) o) ≡ tag (number o)
-    unfolding tag
-    own-tag =
-        let l = length-take-le 6 (drop (tagPlace o) o) (omega (arith, length-drop (tagPlace o) o, behind .0)) in
-        ext-getD 0 (take 6 (drop (tagPlace o) o)) (tag (number o)) l
-        (λ k h. let s : k < 6 = omega arith in getD-take 6 (drop (tagPlace o) o) k 0 s ∙ getD-drop (tagPlace o) o k 0 ∙ own-octet k s)
+  -- taken off, then put in with the same number and id, gives the first frame exactly where the word between is as insertion writes it
+  module _ (octets : (k : ℕ) → getD o k 0 < 256) where
+    pub id-small : sequence e o .path ≤ 15
+    unfolding sequence
+    id-small = rw (rem .carried) (id-below e (be16 o (standing e o + 2)) (word-below o octets (standing e o + 2)))
 
-  -- taken off, then put in with the same number, gives the first frame exactly where the reserved octets were zero
-  pub removed-inserted : ((k : ℕ) → getD o k 0 < 256)
-      → (inserted (removed o) (number o) ≡ o → reservedAt o (tagPlace o) ≡ 0)
-      × (reservedAt o (tagPlace o) ≡ 0 → inserted (removed o) (number o) ≡ o)
-  unfolding inserted
-  removed-inserted octets =
-      let w = length-removed o (tagPlace o) (omega (arith, behind .0)) in (
-        λ e. sym (ap (λ (l : List ℕ). reservedAt l (tagPlace o)) e)
-            ∙ rw (← below .place) (reserved-zero (removed o) (tagPlace o) (number o) (untagging .within)),
-        λ z. put-back
-            ∙ rw (← own-tag octets z) (with-own-tag o (tagPlace o) (omega (arith, behind .0))),
-      )
+    own-six : AsWritten e o
+        → take 6 (drop (standing e o) o) ≡ six e (sequence e o .number) (sequence e o .path) (payloadLength (removed e o) + 6)
+    unfolding six words AsWritten
+    own-six w =
+        six-of-words o (standing e o) six-within octets
+        ∙ by-cases (inFront e) (λ f. rw (f, mark-stood f, w, number-stood f) refl) (λ f. rw (f, number-led f, w, suffix-stood f) refl)
+
+    pub removed-inserted : let again = inserted e (removed e o) (sequence e o .number) (sequence e o .path) in
+        (again ≡ o → AsWritten e o) × (AsWritten e o → again ≡ o)
+    unfolding AsWritten inserted
+    removed-inserted =
+        let size = payloadLength (removed e o) + 6 in
+        let n = sequence e o .number in
+        let id = sequence e o .path in (
+          λ e′. sym (ap (λ (l : List ℕ). be16 l (standing e o + 2)) e′)
+              ∙ rw same-place
+              (word-in (removed e o) (six e n id size) (standing e o) (six-long e n id size) (unsplice .within) 2 (omega arith)
+              ∙ id-between e n id size),
+          λ w. put-back n id ∙ rw (← own-six w) (with-own-six o (standing e o) six-within),
+        )

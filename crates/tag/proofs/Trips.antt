@@ -5,14 +5,17 @@ use mathlib.Core.List.{List}
 use lib.ListN.{length, take}
 use lib.Seq.{take-append-seam}
 use Rattle.octets.specs.Checks.{Verdict, good, refuse, verdict}
+use Rattle.encoding.specs.Encodings.{sequence}
+use Rattle.encoding.proofs.Answered.{header-of, reads-as}
 use Rattle.tag.specs.declared.Written.{Written}
 use Rattle.tag.specs.declared.Written.the-variants.{Length}
 use Rattle.tag.specs.Output.{Writes}
-use Rattle.tag.specs.Insertion.{insertChecks}
-use Rattle.tag.specs.Removal.{removeChecks}
+use Rattle.tag.specs.Insertion.{inserted, insertChecks}
+use Rattle.tag.specs.Removal.{removed, removeChecks}
 use Rattle.tag.specs.RoundTrip.{InsertThenRemove, RemoveThenInsert, InsertThenRead, RemoveThenRead}
-use Rattle.tag.proofs.RoundTrip.{inserted-removed, inserted-removable, inserted-reads}
-use Rattle.tag.proofs.RoundTrip.{removed-inserted, removed-inserted-length, removed-insertable, removed-reads}
+use Rattle.tag.proofs.RoundTrip.{inserted-removed, inserted-removable, inserted-reads, inserted-sequence}
+use Rattle.tag.proofs.RoundTrip.{id-small, removed-inserted, removed-inserted-length, removed-insertable}
+use Rattle.tag.proofs.RoundTrip.{removed-reads, removed-unnumbered}
 
 -- a call that answered a length wrote its result, and the verdict was good
 pub record Wrote (v : Verdict) (result : List ℕ) (k : ℕ) (later : List ℕ) : Type 0 where
@@ -31,27 +34,33 @@ answers : {v : Verdict} {result out : List ℕ} {r : Written} {later : List ℕ}
 answers e p = (p .answer ∙ simp e, simp (p .buffer, e, take-append-seam))
 
 pub insert-then-remove : InsertThenRemove
-insert-then-remove o n out k later out′ r later′ small p room q =
-    let w = wrote (verdict (insertChecks o (length out))) p in
-    let back = inserted-removed o n (length out) (w .accepted) in
-    let a = answers (inserted-removable o n (length out) (w .accepted) small (length out′) room) (rw (w .written) at q) in
+insert-then-remove e o n id out k later out′ r later′ p room q =
+    let w = wrote (verdict (insertChecks e o id (length out))) p in
+    let back = inserted-removed e o n id (length out) (w .accepted) in
+    let a = answers (inserted-removable e o n id (length out) (w .accepted) (length out′) room) (rw (w .written) at q) in
     (a .0 ∙ simp back, simp back at (a .1))
 
 pub remove-then-insert : RemoveThenInsert
-remove-then-insert o out k later out′ r later′ octets p room q =
-    let w = wrote (verdict (removeChecks o (length out))) p in
-    let a = answers (removed-insertable o (length out) (w .accepted) (length out′) room) (rw (w .written) at q) in
-    let only = removed-inserted o (length out) (w .accepted) octets in
-    let long = removed-inserted-length o (length out) (w .accepted) in
+remove-then-insert e o out k later out′ r later′ octets p room q =
+    let w = wrote (verdict (removeChecks e o (length out))) p in
+    let number = sequence e o .number in
+    let id = sequence e o .path in
+    let small = id-small e o (length out) (w .accepted) octets in
+    let a = answers (removed-insertable e o (length out) (w .accepted) id (length out′) small room) (rw (w .written) at q) in
+    let only = removed-inserted e o (length out) (w .accepted) octets in
+    let long = removed-inserted-length e o (length out) (w .accepted) number id in
     let same = rw long at (a .1) in
-    (a .0 ∙ simp long, λ e. only .0 (sym same ∙ e), λ z. same ∙ only .1 z)
+    (a .0 ∙ simp long, λ x. only .0 (sym same ∙ x), λ z. same ∙ only .1 z)
 
 pub insert-then-read : InsertThenRead
-insert-then-read o n out k later h r small p e q =
-    let w = wrote (verdict (insertChecks o (length out))) p in
-    rw (w .written) at q ∙ sym (inserted-reads o n (length out) (w .accepted) small e)
+insert-then-read e o n id out k later h s r p q t =
+    let w = wrote (verdict (insertChecks e o id (length out))) p in
+    let is = inserted-reads e o n id (length out) (w .accepted) (header-of e o q .0) in
+    rw (w .written) at t ∙ reads-as e (inserted e o n id) is ∙ rw (inserted-sequence e o n id (length out) (w .accepted)) refl
 
 pub remove-then-read : RemoveThenRead
-remove-then-read o out k later h r p e q =
-    let w = wrote (verdict (removeChecks o (length out))) p in
-    rw (w .written) at q ∙ sym (removed-reads o (length out) (w .accepted) e)
+remove-then-read e o out k later h s r p q t =
+    let w = wrote (verdict (removeChecks e o (length out))) p in
+    let is = removed-reads e o (length out) (w .accepted) (header-of e o q .0) in
+    rw (w .written)
+    (rw (w .written) at t ∙ reads-as e (removed e o) is, removed-unnumbered e o (length out) (w .accepted))

@@ -4,6 +4,7 @@ use mathlib.Core.Path.{_≡_}
 use mathlib.Core.List.{List}
 use Rattle.octets.specs.Checks.{Verdict}
 use Rattle.octets.proofs.Unique.{one}
+use Rattle.encoding.specs.declared.Encoding.{Encoding}
 use Rattle.tag.specs.declared.Written.{Written}
 use Rattle.tag.specs.Output.{Writes}
 use Rattle.tag.specs.Insertion.{Inserts}
@@ -13,9 +14,9 @@ pub writes-one : {v : Verdict} {result out : List ℕ} {r r′ : Written} {l l�
     → Writes v result out r l → Writes v result out r′ l′ → (r ≡ r′) × (l ≡ l′)
 writes-one p q = (one (p .answer) (q .answer), one (p .buffer) (q .buffer))
 
-module _ (o : List ℕ) {out : List ℕ} {r r′ : Written} {l l′ : List ℕ} where
-  pub inserts-one : (n : ℕ) → Inserts o n out r l → Inserts o n out r′ l′ → (r ≡ r′) × (l ≡ l′)
-  inserts-one n = writes-one
+module _ (e : Encoding) (o : List ℕ) {out : List ℕ} {r r′ : Written} {l l′ : List ℕ} where
+  pub inserts-one : (n id : ℕ) → Inserts e o n id out r l → Inserts e o n id out r′ l′ → (r ≡ r′) × (l ≡ l′)
+  inserts-one n id = writes-one
 
-  pub removes-one : Removes o out r l → Removes o out r′ l′ → (r ≡ r′) × (l ≡ l′)
+  pub removes-one : Removes e o out r l → Removes e o out r′ l′ → (r ≡ r′) × (l ≡ l′)
   removes-one = writes-one

@@ -1,9 +1,11 @@
--- Document 01, "Reading a frame", for C: the R-TAG put in and taken off, by the definitions of `tag`. Assumes nothing.
+-- Document 01, "Reading a frame", and document 02, CR 5, for C: a tag or a trailer put in and taken off, by the definitions of `tag`. Assumes
+-- nothing.
 use Prim.Native.Nat.{ℕ}
 use mathlib.Core.Path.{_≡_}
 use mathlib.Core.List.{List}
 use lib.ListN.{length}
 use Rattle.octets.specs.Checks.{Verdict, good, refuse, verdict, refusal}
+use Rattle.encoding.specs.declared.Encoding.{Encoding}
 use Rattle.tag.specs.declared.Written.{Written}
 use Rattle.tag.specs.declared.Written.the-variants as written
 use Rattle.octets.specs.Copy.{outputBy}
@@ -36,10 +38,11 @@ pub record Tells (w : Written) (before r after : ℕ) : Type 0 where
   pub answer : r ≡ answerOf w
   pub told : after ≡ lengthOf w before
 
--- the promises: of `ahz_insert`
-abbrev pub InsertsTo : List ℕ → ℕ → List ℕ → ℕ → ℕ → List ℕ → ℕ → Type 0
-InsertsTo o n out before r later after = WritesTo (verdict (insertChecks o (length out))) (inserted o n) out before r later after
+-- the promises: of `ahz_insert`, `ahz_insert_hsr` and `ahz_insert_prp`, each in its encoding
+abbrev pub InsertsTo : Encoding → List ℕ → (number id : ℕ) → List ℕ → ℕ → ℕ → List ℕ → ℕ → Type 0
+InsertsTo e o n id out before r later after =
+    WritesTo (verdict (insertChecks e o id (length out))) (inserted e o n id) out before r later after
 
--- of `ahz_remove`
-abbrev pub RemovesTo : List ℕ → List ℕ → ℕ → ℕ → List ℕ → ℕ → Type 0
-RemovesTo o out before r later after = WritesTo (verdict (removeChecks o (length out))) (removed o) out before r later after
+-- of `ahz_remove`, `ahz_remove_hsr` and `ahz_remove_prp`
+abbrev pub RemovesTo : Encoding → List ℕ → List ℕ → ℕ → ℕ → List ℕ → ℕ → Type 0
+RemovesTo e o out before r later after = WritesTo (verdict (removeChecks e o (length out))) (removed e o) out before r later after

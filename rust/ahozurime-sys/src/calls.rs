@@ -2,8 +2,9 @@ extern "C" {
     /// The version of the archive that is linked, as [`AHZ_VERSION`](crate::AHZ_VERSION) is written.
     pub fn ahz_version() -> u32;
 
-    /// Reads a frame and writes [`AHZ_H_WORDS`](crate::AHZ_H_WORDS) words to the start of `header`;
-    /// later words stay. Refuses 1, 2, at a C-TAG 3, 5, 4, at an R-TAG 3, 4; then 8.
+    /// Reads a frame of an R-TAG stream and writes [`AHZ_H_WORDS`](crate::AHZ_H_WORDS) words to the
+    /// start of `header`; later words stay. Refuses 1, 2, at a C-TAG 3, 5, 4, at an R-TAG or an HSR tag
+    /// 3, 4; then 8.
     pub fn ahz_read(
         frame: *const u8,
         frame_octets: usize,
@@ -11,7 +12,26 @@ extern "C" {
         header_words: usize,
     ) -> u8;
 
-    /// How many octets the payload has: the last ones of the frame. 0 where the frame is refused.
+    /// Reads a frame of an HSR stream and writes [`AHZ_H_ID_WORDS`](crate::AHZ_H_ID_WORDS) words to the
+    /// start of `header`; later words stay. Refuses 1 to 5 as [`ahz_read`]; then 8.
+    pub fn ahz_read_hsr(
+        frame: *const u8,
+        frame_octets: usize,
+        header: *mut u64,
+        header_words: usize,
+    ) -> u8;
+
+    /// Reads a frame of a PRP stream and writes [`AHZ_H_ID_WORDS`](crate::AHZ_H_ID_WORDS) words to the
+    /// start of `header`; later words stay. Refuses 1 to 5 as [`ahz_read`]; then 8.
+    pub fn ahz_read_prp(
+        frame: *const u8,
+        frame_octets: usize,
+        header: *mut u64,
+        header_words: usize,
+    ) -> u8;
+
+    /// How many octets the payload has: the last ones of the frame, a trailer among them. 0 where the
+    /// frame is refused.
     pub fn ahz_payload(frame: *const u8, frame_octets: usize) -> usize;
 
     /// Writes the frame with an R-TAG of that number to `out`, and the result's length to `length`;
@@ -25,9 +45,53 @@ extern "C" {
         length: *mut usize,
     ) -> u8;
 
+    /// Writes the frame with an HSR tag of that number and path id to `out`, and the result's length to
+    /// `length`; later octets stay. Refuses 1 to 5 as [`ahz_read`]; 37, 6, 7, 8.
+    pub fn ahz_insert_hsr(
+        frame: *const u8,
+        frame_octets: usize,
+        number: u16,
+        path_id: u8,
+        out: *mut u8,
+        out_octets: usize,
+        length: *mut usize,
+    ) -> u8;
+
+    /// Writes the frame with a PRP trailer of that number and LAN id behind it to `out`, and the
+    /// result's length to `length`; later octets stay. Refuses 1 to 5 as [`ahz_read`]; 37, 7, 8.
+    pub fn ahz_insert_prp(
+        frame: *const u8,
+        frame_octets: usize,
+        number: u16,
+        lan_id: u8,
+        out: *mut u8,
+        out_octets: usize,
+        length: *mut usize,
+    ) -> u8;
+
     /// Writes the frame without its R-TAG to `out`, and the result's length to `length`; later
     /// octets stay. Refuses 1 to 5 as [`ahz_read`]; 9, 8.
     pub fn ahz_remove(
+        frame: *const u8,
+        frame_octets: usize,
+        out: *mut u8,
+        out_octets: usize,
+        length: *mut usize,
+    ) -> u8;
+
+    /// Writes the frame without its HSR tag to `out`, and the result's length to `length`; later
+    /// octets stay. Refuses 1 to 5 as [`ahz_read`]; 9, 8.
+    pub fn ahz_remove_hsr(
+        frame: *const u8,
+        frame_octets: usize,
+        out: *mut u8,
+        out_octets: usize,
+        length: *mut usize,
+    ) -> u8;
+
+    /// Writes the frame without its PRP trailer to `out`, and the result's length to `length`; later
+    /// octets stay. Refuses 1 to 5 as [`ahz_read`]; 9, 8.
+    pub fn ahz_remove_prp(
         frame: *const u8,
         frame_octets: usize,
         out: *mut u8,

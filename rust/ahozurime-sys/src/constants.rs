@@ -1,9 +1,9 @@
 // ---- The version ----
 
 /// Goes up where a program written for an older header could go wrong.
-pub const AHZ_VERSION_MAJOR: u32 = 4;
+pub const AHZ_VERSION_MAJOR: u32 = 5;
 /// Goes up where something is only added.
-pub const AHZ_VERSION_MINOR: u32 = 1;
+pub const AHZ_VERSION_MINOR: u32 = 0;
 /// The version that this package is written for; [`ahz_version`](crate::ahz_version) answers that of
 /// the archive.
 pub const AHZ_VERSION: u32 = AHZ_VERSION_MAJOR * 65_536 + AHZ_VERSION_MINOR;
@@ -25,19 +25,19 @@ pub const AHZ_STACK: usize = 512;
 pub const AHZ_R_FRAME_SHORT: u8 = 1;
 /// A frame over 1,522 octets, or over 1,526 with its check.
 pub const AHZ_R_FRAME_LONG: u8 = 2;
-/// The octets end before the type after a tag.
+/// The octets end before the type after a tag, be it a C-TAG, an R-TAG or an HSR tag.
 pub const AHZ_R_TAG_CUT: u8 = 3;
-/// 8100 after a C-TAG; 8100 or F1C1 after an R-TAG.
+/// 8100 after a C-TAG; 8100, F1C1 or 892F after an R-TAG or an HSR tag.
 pub const AHZ_R_TAG_TWICE: u8 = 4;
 /// VLAN id 4,095.
 pub const AHZ_R_VLAN: u8 = 5;
-/// Insertion: there is an R-TAG.
+/// Insertion: there is an R-TAG or an HSR tag.
 pub const AHZ_R_TAG_THERE: u8 = 6;
 /// The result would be over 1,522 octets.
 pub const AHZ_R_RESULT_LONG: u8 = 7;
 /// The lent output is shorter than the result.
 pub const AHZ_R_OUTPUT_SHORT: u8 = 8;
-/// Removal: there is no R-TAG.
+/// Removal: there is no number in the stream's encoding.
 pub const AHZ_R_NO_TAG: u8 = 9;
 /// Table: an entry of no known kind.
 pub const AHZ_R_ENTRY_KIND: u8 = 10;
@@ -69,6 +69,8 @@ pub const AHZ_R_CALIBRATION: u8 = 22;
 pub const AHZ_R_TAKEN_OR_USE: u8 = 27;
 /// The frame check sequence does not match the octets before it.
 pub const AHZ_R_FCS: u8 = 28;
+/// Insertion: a path or LAN id over 15.
+pub const AHZ_R_PATH_ID: u8 = 37;
 
 // ---- The faults of a tape, which stand in its output and are never an answer ----
 
@@ -128,12 +130,22 @@ pub const AHZ_FRAME_LONGEST: usize = 1_522;
 pub const AHZ_CTAG_OCTETS: usize = 4;
 /// Octets of an R-TAG.
 pub const AHZ_RTAG_OCTETS: usize = 6;
+/// Octets of an HSR tag.
+pub const AHZ_HSR_OCTETS: usize = 6;
+/// Octets of a PRP trailer.
+pub const AHZ_PRP_OCTETS: usize = 6;
 /// What a C-TAG begins with.
 pub const AHZ_TYPE_CTAG: u16 = 0x8100;
 /// What an R-TAG begins with.
 pub const AHZ_TYPE_RTAG: u16 = 0xF1C1;
+/// What an HSR tag begins with.
+pub const AHZ_TYPE_HSR: u16 = 0x892F;
+/// What a PRP trailer ends with.
+pub const AHZ_SUFFIX_PRP: u16 = 0x88FB;
 /// The last VLAN id; 4,095 is refused, in a frame and in a table.
 pub const AHZ_VLAN_LAST: u16 = 4_094;
+/// The last path id, and the last LAN id.
+pub const AHZ_PATH_ID_LAST: u8 = 15;
 
 // ---- The words of a header ----
 
@@ -145,16 +157,21 @@ pub const AHZ_H_SOURCE: usize = 1;
 pub const AHZ_H_TAGGED: usize = 2;
 /// The VLAN id, 0 without a C-TAG.
 pub const AHZ_H_VLAN: usize = 3;
-/// 1 with an R-TAG, else 0.
+/// 1 with a number in the call's encoding, else 0.
 pub const AHZ_H_NUMBERED: usize = 4;
-/// The R-TAG's number, 0 without an R-TAG: look at [`AHZ_H_NUMBERED`] first.
+/// That number, 0 without one: look at [`AHZ_H_NUMBERED`] first.
 pub const AHZ_H_NUMBER: usize = 5;
 /// The last type.
 pub const AHZ_H_TYPE: usize = 6;
-/// Where the payload starts; it goes to the end of the frame.
+/// Where the payload starts; it goes to the end of the frame, a trailer with it.
 pub const AHZ_H_PAYLOAD: usize = 7;
-/// How many words a header has.
+/// How many words a header of [`ahz_read`](crate::ahz_read) has.
 pub const AHZ_H_WORDS: usize = 8;
+/// The path or LAN id, 0 without a number; not of [`ahz_read`](crate::ahz_read).
+pub const AHZ_H_PATH_ID: usize = 8;
+/// How many words a header of [`ahz_read_hsr`](crate::ahz_read_hsr) or
+/// [`ahz_read_prp`](crate::ahz_read_prp) has.
+pub const AHZ_H_ID_WORDS: usize = 9;
 
 // ---- The frame check sequence ----
 

@@ -7,7 +7,7 @@
 //!
 //! | module | what it does |
 //! |---|---|
-//! | [`frame`] | a frame read; its payload; an R-TAG put in and taken off |
+//! | [`frame`] | a frame read; its payload; its number put in and taken off, in any of three encodings |
 //! | [`fcs`] | the frame check sequence checked, taken off and appended |
 //! | [`streams`] | a stream table checked; a frame's stream looked up |
 //! | [`recovery`] | numbers generated; a recovery state and its steps |
@@ -20,7 +20,8 @@
 //! # From a frame to its cards
 //!
 //! What a receiver does with each frame: find its stream, let the state of that stream decide, take
-//! the tag off, and read the cards.
+//! the tag off, and read the cards. Here the numbers stand in R-TAGs. For a stream of HSR tags or PRP
+//! trailers it is the same with the calls of [`frame`] whose names end in `_hsr` or `_prp`.
 //!
 //! ```
 //! use ahozurime::cards::{self, Calibration, Card, Reading};

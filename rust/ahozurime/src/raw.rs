@@ -16,9 +16,21 @@ pub fn version() -> u32 {
 }
 
 #[inline]
-pub fn read(frame: &[u8], header: &mut [u64; sys::AHZ_H_WORDS]) -> u8 {
+pub fn read(frame: &[u8], header: &mut [u64; sys::AHZ_H_ID_WORDS]) -> u8 {
     // Safety: two slices, each with its length; the second is borrowed alone.
     unsafe { sys::ahz_read(frame.as_ptr(), frame.len(), header.as_mut_ptr(), header.len()) }
+}
+
+#[inline]
+pub fn read_hsr(frame: &[u8], header: &mut [u64; sys::AHZ_H_ID_WORDS]) -> u8 {
+    // Safety: two slices, each with its length; the second is borrowed alone.
+    unsafe { sys::ahz_read_hsr(frame.as_ptr(), frame.len(), header.as_mut_ptr(), header.len()) }
+}
+
+#[inline]
+pub fn read_prp(frame: &[u8], header: &mut [u64; sys::AHZ_H_ID_WORDS]) -> u8 {
+    // Safety: two slices, each with its length; the second is borrowed alone.
+    unsafe { sys::ahz_read_prp(frame.as_ptr(), frame.len(), header.as_mut_ptr(), header.len()) }
 }
 
 #[inline]
@@ -35,10 +47,38 @@ pub fn insert(frame: &[u8], number: u16, out: &mut [u8], length: &mut usize) -> 
 }
 
 #[inline]
+pub fn insert_hsr(frame: &[u8], number: u16, id: u8, out: &mut [u8], length: &mut usize) -> u8 {
+    let (at, octets) = (out.as_mut_ptr(), out.len());
+    // Safety: two slices, each with its length, and one number; the last two are borrowed alone.
+    unsafe { sys::ahz_insert_hsr(frame.as_ptr(), frame.len(), number, id, at, octets, length) }
+}
+
+#[inline]
+pub fn insert_prp(frame: &[u8], number: u16, id: u8, out: &mut [u8], length: &mut usize) -> u8 {
+    let (at, octets) = (out.as_mut_ptr(), out.len());
+    // Safety: two slices, each with its length, and one number; the last two are borrowed alone.
+    unsafe { sys::ahz_insert_prp(frame.as_ptr(), frame.len(), number, id, at, octets, length) }
+}
+
+#[inline]
 pub fn remove(frame: &[u8], out: &mut [u8], length: &mut usize) -> u8 {
     let (at, octets) = (out.as_mut_ptr(), out.len());
     // Safety: two slices, each with its length, and one number; the last two are borrowed alone.
     unsafe { sys::ahz_remove(frame.as_ptr(), frame.len(), at, octets, length) }
+}
+
+#[inline]
+pub fn remove_hsr(frame: &[u8], out: &mut [u8], length: &mut usize) -> u8 {
+    let (at, octets) = (out.as_mut_ptr(), out.len());
+    // Safety: two slices, each with its length, and one number; the last two are borrowed alone.
+    unsafe { sys::ahz_remove_hsr(frame.as_ptr(), frame.len(), at, octets, length) }
+}
+
+#[inline]
+pub fn remove_prp(frame: &[u8], out: &mut [u8], length: &mut usize) -> u8 {
+    let (at, octets) = (out.as_mut_ptr(), out.len());
+    // Safety: two slices, each with its length, and one number; the last two are borrowed alone.
+    unsafe { sys::ahz_remove_prp(frame.as_ptr(), frame.len(), at, octets, length) }
 }
 
 #[inline]

@@ -40,12 +40,12 @@ refusals! {
     1 FRAME_SHORT "frame under 14 octets, or under 18 with its check"
     2 FRAME_LONG "frame over 1,522 octets, or over 1,526 with its check"
     3 TAG_CUT "octets end before the type after a tag"
-    4 TAG_TWICE "8100 after a C-TAG, or 8100 or F1C1 after an R-TAG"
+    4 TAG_TWICE "8100 after a C-TAG, or 8100, F1C1 or 892F after an R-TAG or an HSR tag"
     5 VLAN "VLAN id 4,095"
-    6 TAG_THERE "insertion into a frame with an R-TAG"
+    6 TAG_THERE "insertion into a frame with an R-TAG or an HSR tag"
     7 RESULT_LONG "result over 1,522 octets"
     8 OUTPUT_SHORT "output shorter than the result"
-    9 NO_TAG "removal from a frame without an R-TAG"
+    9 NO_TAG "removal from a frame without a number in the stream's encoding"
     10 ENTRY_KIND "table entry of no known kind"
     11 ENTRY_CUT "octets end inside a table entry"
     12 ENTRY_RANGE "choice or VLAN of a table entry out of range"
@@ -65,6 +65,7 @@ refusals! {
     26 TAPE_LONG "tape over 4,096 octets"
     27 TAKEN_OR_USE "taken flag or use not 0 or 1"
     28 FCS "frame check sequence does not match"
+    37 PATH_ID "path or LAN id over 15"
 }
 
 impl Refusal {

@@ -68,7 +68,8 @@ pub fn check_table(table: &[u8]) -> Result<(), Refusal> {
     }
 }
 
-/// The handle of the first entry that matches the frame; none where no entry does.
+/// The handle of the first entry that matches the frame; none where no entry does. The number is not
+/// asked for: look up first, and then read the frame in the encoding of its stream.
 ///
 /// # Errors
 ///

@@ -39,8 +39,13 @@ fn refusals_have_the_numbers_of_the_paper() {
         Refusal::TAPE_LONG,
         Refusal::TAKEN_OR_USE,
         Refusal::FCS,
+        Refusal::PATH_ID,
     ];
-    assert_eq!(in_order.map(Refusal::number).to_vec(), (1..=28).collect::<Vec<u8>>());
+    assert_eq!(in_order.map(Refusal::number).to_vec(), numbers_of_the_papers());
+}
+
+fn numbers_of_the_papers() -> Vec<u8> {
+    (1..=28).chain([37]).collect()
 }
 
 /// The sentences of the header by their numbers, and the one for every other number.
@@ -63,7 +68,7 @@ fn sentences_of_the_header() -> (BTreeMap<u8, &'static str>, &'static str) {
 #[test]
 fn sentences_are_those_of_the_header() {
     let (sentences, none) = sentences_of_the_header();
-    assert_eq!(sentences.keys().copied().collect::<Vec<_>>(), (1..=28).collect::<Vec<_>>());
+    assert_eq!(sentences.keys().copied().collect::<Vec<_>>(), numbers_of_the_papers());
     for number in 0..=255 {
         let refusal = Refusal::from_number(number);
         assert_eq!(refusal.number(), number);
@@ -79,9 +84,9 @@ fn a_refusal_is_shown_with_its_sentence() {
 }
 
 #[test]
-fn the_version_is_four_point_one() {
-    assert_eq!(version(), Version { major: 4, minor: 1 });
-    assert_eq!(Version::OF_THIS_PACKAGE, Version { major: 4, minor: 1 });
+fn the_version_is_five_point_zero() {
+    assert_eq!(version(), Version { major: 5, minor: 0 });
+    assert_eq!(Version::OF_THIS_PACKAGE, Version { major: 5, minor: 0 });
 }
 
 #[test]
@@ -99,6 +104,7 @@ fn a_version_fits_the_same_major_and_a_minor_up_to_its_own() {
 fn constants_are_those_of_the_paper() {
     assert_eq!((frame::SHORTEST, frame::LONGEST), (14, 1_522));
     assert_eq!((frame::RTAG_OCTETS, frame::VLAN_LAST), (6, 4_094));
+    assert_eq!((frame::HSR_OCTETS, frame::PRP_OCTETS, frame::PATH_ID_LAST), (6, 6, 15));
     assert_eq!((fcs::OCTETS, fcs::SHORTEST, fcs::LONGEST), (4, 18, 1_526));
     assert_eq!((streams::KIND_DESTINATION, streams::KIND_SOURCE), (1, 2));
     let choices = (streams::CHOICE_TAGGED, streams::CHOICE_PRIORITY, streams::CHOICE_ALL);
@@ -122,6 +128,138 @@ fn constants_are_those_of_the_paper() {
     assert_eq!((tape::KIND_SETUP, tape::LONGEST), (0x0F, 4_096));
     assert_eq!((STACK, fcs::STACK, tape::STACK), (512, 1_536, 55_296));
     assert_eq!(tape::OUTPUT, 53_513);
+}
+
+type Read = fn(&[u8]) -> Result<frame::Header, Refusal>;
+type Insert = fn(&[u8], u16, u8, &mut [u8]) -> Result<usize, Refusal>;
+type Remove = fn(&[u8], &mut [u8]) -> Result<usize, Refusal>;
+
+/// The calls of each encoding: R-TAG, which has no id, HSR, PRP.
+const ENCODINGS: [(Read, Insert, Remove); 3] = [
+    (frame::read, |frame, number, _, out| frame::insert(frame, number, out), frame::remove),
+    (frame::read_hsr, frame::insert_hsr, frame::remove_hsr),
+    (frame::read_prp, frame::insert_prp, frame::remove_prp),
+];
+const R_TAG: [u8; 6] = [0xF1, 0xC1, 0, 0, 1, 2];
+const HSR_TAG: [u8; 6] = [0x89, 0x2F, 0xA0, 0x0A, 1, 2];
+const PRP_TRAILER: [u8; 6] = [1, 2, 0xA0, 0x0A, 0x88, 0xFB];
+
+/// Addresses, VLAN 5, a tag or none, a type, and a payload.
+fn frame_of(tag: &[u8], payload: &[u8]) -> Vec<u8> {
+    let head = [2, 0, 0, 0, 0, 7, 2, 0, 0, 0, 0, 1, 0x81, 0x00, 0x20, 0x05];
+    [&head, tag, &[0x88, 0xB5], payload].concat()
+}
+
+/// Number 258 and id 10, for a payload of 4 octets, so that the size is 10.
+#[test]
+fn a_number_goes_out_in_each_encoding_and_comes_back() {
+    let payload = [0x10, 0x20, 0x30, 0x40];
+    let bare = frame_of(&[], &payload);
+    let with_trailer = frame_of(&[], &[&payload[..], &PRP_TRAILER].concat());
+    let with_number = [frame_of(&R_TAG, &payload), frame_of(&HSR_TAG, &payload), with_trailer];
+    for (encoding, (read, insert, remove)) in ENCODINGS.into_iter().enumerate() {
+        let mut out = [0xA5; frame::LONGEST];
+        assert_eq!(insert(&bare, 258, 10, &mut out), Ok(28));
+        let (sent, later) = out.split_at(28);
+        assert_eq!(sent, with_number[encoding]);
+        assert!(later.iter().all(|&octet| octet == 0xA5));
+
+        let mut expected = frame::read(&bare).unwrap();
+        assert_eq!((expected.number, expected.path_id, expected.payload_at), (None, 0, 18));
+        expected.number = Some(258);
+        (expected.path_id, expected.payload_at) = [(0, 24), (10, 24), (10, 18)][encoding];
+        assert_eq!(read(sent), Ok(expected));
+
+        let mut back = [0xA5; frame::LONGEST];
+        assert_eq!(remove(sent, &mut back), Ok(22));
+        assert_eq!(back[..22], bare);
+        assert_eq!(remove(&bare, &mut back), Err(Refusal::NO_TAG));
+    }
+}
+
+#[test]
+fn a_number_is_heard_in_its_own_encoding_alone() {
+    for (tag, heard) in [
+        (&[][..], [None, None, Some(258)]),
+        (&R_TAG, [Some(258), None, Some(258)]),
+        (&HSR_TAG, [None, Some(258), Some(258)]),
+    ] {
+        let sent = frame_of(tag, &[&[0; 4][..], &PRP_TRAILER].concat());
+        for ((read, _, remove), number) in ENCODINGS.into_iter().zip(heard) {
+            let header = read(&sent).unwrap();
+            assert_eq!((header.number, header.ethertype), (number, 0x88B5));
+            assert_eq!(frame::payload(&sent), &sent[header.payload_at..]);
+            let removed = remove(&sent, &mut [0; frame::LONGEST]);
+            assert_eq!(removed, number.map(|_| sent.len() - 6).ok_or(Refusal::NO_TAG));
+        }
+        // Of another size, and without its suffix.
+        for (place, octet) in [(3, 0x0B), (4, 0x89), (5, 0xFA)] {
+            let mut trailer = PRP_TRAILER;
+            trailer[place] = octet;
+            let sent = frame_of(tag, &[&[0; 4][..], &trailer].concat());
+            let header = frame::read_prp(&sent).unwrap();
+            assert_eq!((header.number, header.path_id), (None, 0));
+        }
+    }
+}
+
+#[test]
+fn either_tag_is_one_in_every_encoding() {
+    for (read, insert, remove) in ENCODINGS {
+        for first in [R_TAG, HSR_TAG] {
+            for second in [&R_TAG[..], &HSR_TAG, &[0x81, 0x00, 0x00, 0x05]] {
+                let twice = frame_of(&[&first[..], second].concat(), &[0; 8]);
+                let mut out = [0xA5; frame::LONGEST];
+                assert_eq!(read(&twice), Err(Refusal::TAG_TWICE));
+                assert_eq!(insert(&twice, 258, 16, &mut out), Err(Refusal::TAG_TWICE));
+                assert_eq!(remove(&twice, &mut out), Err(Refusal::TAG_TWICE));
+            }
+            let once = frame_of(&first, &[]);
+            assert_eq!(read(&once[..23]), Err(Refusal::TAG_CUT));
+            assert_eq!(read(&once).map(|header| header.ethertype), Ok(0x88B5));
+        }
+    }
+}
+
+#[test]
+fn an_id_over_15_is_refused_before_a_tag_that_is_there() {
+    let [(_, insert_r_tag, _), with_id @ ..] = ENCODINGS;
+    for tag in [R_TAG, HSR_TAG] {
+        let tagged = frame_of(&tag, &[0; 4]);
+        let mut out = [0xA5; frame::LONGEST];
+        assert_eq!(insert_r_tag(&tagged, 258, 0, &mut out), Err(Refusal::TAG_THERE));
+        assert_eq!(frame::insert_hsr(&tagged, 258, 15, &mut out), Err(Refusal::TAG_THERE));
+        for (_, insert, _) in with_id {
+            for id in [16, 17, 255] {
+                assert_eq!(insert(&tagged, 258, id, &mut out), Err(Refusal::PATH_ID));
+            }
+        }
+        assert!(out.iter().all(|&octet| octet == 0xA5));
+        assert_eq!(frame::insert_prp(&tagged, 258, 15, &mut out), Ok(tagged.len() + 6));
+    }
+    let mut last_vlan = frame_of(&[], &[0; 4]);
+    last_vlan[14..16].fill(0xFF);
+    for (_, insert, _) in ENCODINGS {
+        assert_eq!(insert(&last_vlan, 258, 16, &mut [0; 64]), Err(Refusal::VLAN));
+    }
+}
+
+#[test]
+fn a_number_is_not_put_in_nor_taken_off_without_room() {
+    let octets: Vec<u8> = frame_of(&[], &[0; 1_499]);
+    for (_, insert, remove) in ENCODINGS {
+        let mut out = [0xA5; frame::LONGEST];
+        assert_eq!(insert(&octets, 258, 10, &mut out), Err(Refusal::RESULT_LONG));
+        let longest = &octets[..1_516];
+        assert_eq!(insert(longest, 258, 10, &mut out[..1_521]), Err(Refusal::OUTPUT_SHORT));
+        assert!(out.iter().all(|&octet| octet == 0xA5));
+        assert_eq!(insert(longest, 258, 10, &mut out), Ok(1_522));
+        let mut back = [0xA5; 1_516];
+        assert_eq!(remove(&out, &mut back[..1_515]), Err(Refusal::OUTPUT_SHORT));
+        assert!(back.iter().all(|&octet| octet == 0xA5));
+        assert_eq!(remove(&out, &mut back), Ok(1_516));
+        assert_eq!(back, longest);
+    }
 }
 
 #[test]

@@ -1,22 +1,24 @@
--- `insertion::write_tagged` meets its promise: the tag is put first, and the octets behind it next. Assumes nothing.
+-- `insertion::write_tagged` meets its promise: the six are put first, and the octets behind them next. Assumes nothing.
+use mathlib.Core.Path.{sym}
 use borrow.Author.Needs.{needs}
 use Rattle.tag.proofs.Splice.{put-tagged}
 use Rattle.insertion.proofs.write_tagged.Statement.{statement}
 use Rattle.insertion.proofs.write_tagged.Tie as tie
 
+-- they are six
+slice-aggregate-put : tie.Need-slice-aggregate-put
+slice-aggregate-put c = search needs
+
 -- both parts are written
 returns : tie.Need-returns
 returns c =
     let at-rest = c .before .before in
-    let at-tag = at-rest .before .before .before .before in
-    let made = at-tag .before .before .before in
-    let start = made .before .before .before in
-    put-tagged (start .args .rest .now) (start .args .out .now) (start .args .number) (start .pre) (made .r-tag .ensures)
-    (at-tag .put .ensures)
+    let at-six = at-rest .before .before .before .before in
+    let lent = at-six .before .before in
+    let start = lent .before .before .before in
+    put-tagged (start .args .t2) (start .args .rest .now) (start .args .out .now) (sym (slice-aggregate-put lent)) (start .pre)
+    (at-six .put .ensures)
     (at-rest .put2 .ensures)
-
-slice-aggregate-put : tie.Need-slice-aggregate-put
-slice-aggregate-put c = search needs
 
 part-put-start : tie.Need-part-put-start
 part-put-start c = search needs

@@ -1,4 +1,4 @@
--- `insertion::write_with` meets its promise: the octets before the tag's place are put first, and the tag with those behind it next.
+-- `insertion::write_with` meets its promise: the octets before the place are put first, and the six with those behind it next.
 -- Assumes nothing.
 use mathlib.Core.Path.{sym}
 use lib.Seq.{length-take-le}
@@ -28,7 +28,7 @@ returns c =
     let at-back = c .before .before in
     let at-front = at-back .before .before .before .before .before in
     let start = at-front .before .before .before .before .before in
-    put-with (start .args .frame .now) (start .args .out .now) (start .args .at) (start .args .number) (start .pre .0) (start .pre .1)
+    put-with (start .args .frame .now) (start .args .six) (start .args .out .now) (start .args .at) (search (start .good, needs)) (start .pre .0) (start .pre .1)
     (at-front .put .ensures)
     (at-back .write-tagged .ensures)
 
