@@ -94,11 +94,12 @@
  *     where it ends before that type, and by 4 where that is 8100, F1C1 or 892F; else ahz_insert, which put an R-TAG in, refuses it by 6.
  *     The other kind has 892F behind its R-TAG, and is refused by 4. So no frame has the type 892F any more: a program that looked for it
  *     calls ahz_read_hsr. All other frames are to these calls what they were.
- *   Names: all are kept, those of these five calls too: a sender of R-TAGs writes no frame of those two kinds, and of what it writes a
- *     program for 4.1 is told what it was told before. A program for 5 that makes no new call links with an archive of version 4 as well:
- *     ahz_version_fits tells.
+ *   Names: all are kept, those of these five calls too: a sender of R-TAGs whose own frames are not of type 892F writes none of those two
+ *     kinds, and of what it writes a program for 4.1 is told what it was told before. A program for 5 that makes no new call links with an
+ *     archive of version 4 as well: ahz_version_fits tells.
  *   Sources: one that has no frames of those two kinds needs no change. ahz_header_t has AHZ_H_ID_WORDS words, and had AHZ_H_WORDS: the
- *     path id is one more. ahz_read writes AHZ_H_WORDS as before; with so few ahz_read_hsr and ahz_read_prp refuse by 8. */
+ *     path id is one more. In C++ an older object whose ahz_header_read the linker joins with the new one lends one word too few, which is
+ *     then written past. ahz_read writes AHZ_H_WORDS as before; with so few ahz_read_hsr and ahz_read_prp refuse by 8. */
 #define AHZ_VERSION_MAJOR 5
 #define AHZ_VERSION_MINOR 0
 #define AHZ_VERSION (AHZ_VERSION_MAJOR * 65536u + AHZ_VERSION_MINOR)

@@ -50,7 +50,7 @@ impl Encoding {
     }
 
     /// The six octets, of an id that is not refused. "Size counts the octets after the last type, the
-    /// six added ones included." Of the R-TAG "reserved octets are written zero" (002 clause 7.8.2).
+    /// six added ones included." Of the R-TAG "Reserved octets are written zero" (document 01).
     #[inline]
     pub fn octets(self, number: u16, id: u8, size: usize) -> [u8; LENGTH] {
         let id_and_size = u16::from(id) << SIZE_BITS | size as u16;

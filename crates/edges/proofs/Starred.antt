@@ -19,7 +19,8 @@ use Rattle.recovery.specs.Packets.{numbered, tracing, settled, heard, packetOf}
 use Rattle.edges.specs.Starred.{cases, Starred}
 
 pub starred : Starred
-unfolding cases inFront tell idAndSize idWord words asOctets six valueOf number wordIn marksOf mark none clearFrom set reach moved lostBy slid lostIn verdict fullTicks ticksOf
-    setupChecks checked isVector isIndividual apart signed difference outOfOrder firstMarks first late onward byDifference vector match plus
-    awaits partsAgree keepsFirst sound freshState restarted byRule numbered opened carried holeBy holesIn traced tracing counted settled heard packetOf
+unfolding cases inFront tell idAndSize idWord words asOctets six valueOf number wordIn marksOf mark none clearFrom set reach moved lostBy
+    slid lostIn verdict fullTicks ticksOf setupChecks checked isVector isIndividual apart signed difference outOfOrder firstMarks first late
+    onward byDifference vector match plus awaits partsAgree keepsFirst sound freshState restarted byRule numbered opened carried holeBy
+    holesIn traced tracing counted settled heard packetOf
 starred = refl

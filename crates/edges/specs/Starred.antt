@@ -80,7 +80,8 @@ cases =
     ∷ record { asked = hear 1 4 (5 ∷ 5 ∷ []); said = heardAs (Pass ∷ Discard ∷ []) 0 0 }
     -- "Number 258: F1 C1 00 00 01 02"
     ∷ record { asked = sixOctets RTag 258 0 10; said = octets (0xF1 ∷ 0xC1 ∷ 0x00 ∷ 0x00 ∷ 0x01 ∷ 0x02 ∷ []) }
-    -- CR 5: that number with id 10 and a payload of 4, by "892F, path id 4 bits, size 12, number 16" and "number 16, LAN id 4, size 12, 88FB"
+    -- CR 5: that number with id 10 and a payload of 4, by "892F, path id 4 bits, size 12, number 16" and "number 16, LAN id 4, size 12,
+    -- 88FB"
     ∷ record { asked = sixOctets Hsr 258 10 10; said = octets (0x89 ∷ 0x2F ∷ 0xA0 ∷ 0x0A ∷ 0x01 ∷ 0x02 ∷ []) }
     ∷ record { asked = sixOctets Prp 258 10 10; said = octets (0x01 ∷ 0x02 ∷ 0xA0 ∷ 0x0A ∷ 0x88 ∷ 0xFB ∷ []) }
     ∷ []
@@ -91,6 +92,6 @@ given c = answer (c .asked)
 abbrev pub expected : Case → Answer
 expected c = c .said
 
--- every case is answered as document 01 says
+-- every case is answered as the papers say
 abbrev pub Starred : Type 0
 Starred = map given cases ≡ map expected cases

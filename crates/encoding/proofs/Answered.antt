@@ -1,7 +1,6 @@
 -- What the answer of a reading in an encoding tells of the frame. Assumes nothing.
 use Prim.Native.Nat.{ℕ}
 use mathlib.Core.Path.{_≡_}
-use mathlib.Core.Bool.{Bool}
 use mathlib.Core.List.{List}
 use Rattle.octets.proofs.Bools.{by-cases}
 use Rattle.frame.specs.declared.Header.{Header}

@@ -3,7 +3,7 @@
 use Prim.Native.Nat.{ℕ, zero, suc, _+_, _-_, _%_, _≤_, _<_}
 use native.Mathlib.Omega.{arith}
 use mathlib.Core.Path.{_≡_, refl, sym, _∙_, ap}
-use mathlib.Core.Bool.{true, false, false≢true, _&&_}
+use mathlib.Core.Bool.{true, false, false≢true, cond, _&&_}
 use mathlib.Core.List.{List}
 use lib.ListN.{length}
 use lib.Dec.{leb, ltb, eqb}
@@ -13,7 +13,7 @@ use Rattle.octets.specs.Checks.{good, verdict}
 use Rattle.octets.proofs.Bools.{by-cases, both}
 use Rattle.frame.specs.declared.Header.{Header}
 use Rattle.frame.specs.declared.Reading.the-variants.{Frame}
-use Rattle.frame.specs.Layout.{tagPlace, announces, sequenced, announced, payloadPlace, payloadLength}
+use Rattle.frame.specs.Layout.{tagPlace, announces, sequenced, announced, number, payloadPlace, payloadLength}
 use Rattle.frame.specs.Reader.{checks, header, reading}
 use Rattle.frame.proofs.Verdicts.{place-bounds}
 use Rattle.frame.proofs.Accepted.{frame-good, payload-tagged, payload-bare, good-before, behind-tag}
@@ -38,13 +38,14 @@ unfolding carries
 carries-back e o f = rw f
 
 -- what a trailer says
-pub trailing : (o : List ℕ) (suffix octets : ℕ) → trails o suffix octets ≡ true → (6 ≤ octets) × (be16 o (length o - 2) ≡ suffix)
+trailing : (o : List ℕ) (suffix octets : ℕ) → trails o suffix octets ≡ true
+    → (6 ≤ octets) × (be16 o (length o - 2) ≡ suffix) × (be16 o (length o - 4) % 4096 ≡ octets)
 unfolding trails
 trailing o suffix octets t =
     let ends = eqb (be16 o (length o - 2)) suffix in
     let sized = both (leb 6 octets && ends) (eqb (be16 o (length o - 4) % 4096) octets) t in
     let suffixed = both (leb 6 octets) ends (sized .0) in
-    (leb-true _ _ (suffixed .0), eqb-true _ _ (suffixed .1))
+    (leb-true _ _ (suffixed .0), eqb-true _ _ (suffixed .1), eqb-true _ _ (sized .1))
 
 -- what is in front is a sequence tag
 pub carried-sequenced : (e : Encoding) (o : List ℕ) → inFront e ≡ true → carries e o ≡ true → sequenced o ≡ true
@@ -102,8 +103,9 @@ module _ (e : Encoding) (o : List ℕ) (ok : verdict (checks o) ≡ good) (c : c
   behind : inFront e ≡ true → tagPlace o + 6 + 2 ≤ length o
   behind f = behind-tag o ok (carried-sequenced e o f c) .0
 
-  -- a trailer: the payload has its six octets, and the last two are the suffix
-  pub trailed : inFront e ≡ false → (6 ≤ payloadLength o) × (be16 o (length o - 2) ≡ mark e)
+  -- a trailer: the payload has its six octets, the last two are the suffix, and the size is the payload's length
+  pub trailed : inFront e ≡ false
+      → (6 ≤ payloadLength o) × (be16 o (length o - 2) ≡ mark e) × (be16 o (length o - 4) % 4096 ≡ payloadLength o)
   trailed f = trailing o (mark e) (payloadLength o) (sym (carries-back e o f) ∙ c)
 
   pub standing-within : standing e o + 6 ≤ length o
@@ -114,6 +116,15 @@ module _ (e : Encoding) (o : List ℕ) (ok : verdict (checks o) ≡ good) (c : c
 pub number-within : (e : Encoding) → numberAt e ≤ 4
 unfolding numberAt
 number-within e = by-cases (inFront e) (λ f. rw f (omega arith)) (λ f. rw f (omega arith))
+
+-- the number is the tag's, which was read, or leads the trailer
+pub number-stands : (e : Encoding) (o : List ℕ) {h : Header} → Frame h ≡ reading o → carries e o ≡ true
+    → cond (inFront e) (h .number) (be16 o (standing e o)) ≡ be16 o (standing e o + numberAt e)
+unfolding standing place numberAt header number
+number-stands e o r c =
+    by-cases (inFront e)
+    (λ f. rw f (ap (λ (x : Header). x .number) (frame-good o r .1) ∙ rw (carried-sequenced e o f c)))
+    (λ f. let first : length o - 6 + 0 ≡ length o - 6 = omega arith in rw (f, first))
 
 -- so where its payload starts tells where the six octets stand
 pub stands-at : (e : Encoding) (o : List ℕ) {h : Header} → Frame h ≡ reading o → carries e o ≡ true

@@ -9,7 +9,7 @@ use Rattle.octets.specs.Number.{be16}
 use Rattle.octets.proofs.Bools.{by-cases}
 use Rattle.encoding.specs.declared.Encoding.{Encoding}
 use Rattle.encoding.specs.declared.Encoding.the-variants.{RTag, Hsr, Prp}
-use Rattle.encoding.specs.Encodings.{inFront, mark, idAndSize, idWord, words, asOctets, six, numberAt}
+use Rattle.encoding.specs.Encodings.{inFront, mark, idAndSize, idWord, words, asOctets, six, numberAt, idIn}
 
 -- any three words as octets
 module _ (a b c : ℕ) where
@@ -31,6 +31,14 @@ unfolding inFront idWord idAndSize
 size-between RTag id size f s = cc
 size-between Hsr id size f s = cc
 size-between Prp id size f s = omega arith
+
+-- a word of a trailer with that size is written again from its id
+pub written-again : (e : Encoding) (word size : ℕ) → inFront e ≡ false → word < 65536 → word % 4096 ≡ size
+    → word ≡ idWord e (idIn e word) size
+unfolding inFront idWord idAndSize idIn
+written-again RTag word size f small s = cc
+written-again Hsr word size f small s = cc
+written-again Prp word size f small s = omega arith
 
 module _ (e : Encoding) (number id size : ℕ) where
   pub six-long : length (six e number id size) ≡ 6

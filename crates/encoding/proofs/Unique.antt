@@ -6,7 +6,7 @@ use mathlib.Core.List.{List}
 use Rattle.octets.proofs.Unique.{one}
 use Rattle.encoding.specs.declared.Encoding.{Encoding}
 use Rattle.encoding.specs.declared.Packet.{Packet}
-use Rattle.encoding.specs.Encodings.{InFront, Stands, Makes}
+use Rattle.encoding.specs.Encodings.{InFront, Stands, Marks, Makes}
 use Rattle.encoding.specs.Reader.{ReadsIn}
 
 module _ (e : Encoding) where
@@ -15,6 +15,9 @@ module _ (e : Encoding) where
 
   pub stands-one : (front back : ℕ) {r r′ : ℕ} → Stands e front back r → Stands e front back r′ → r ≡ r′
   stands-one front back = one
+
+  pub marks-one : {r r′ : ℕ} → Marks e r → Marks e r′ → r ≡ r′
+  marks-one = one
 
   pub makes-one : (number id size : ℕ) {r r′ : List ℕ} → Makes e number id size r → Makes e number id size r′ → r ≡ r′
   makes-one number id size = one

@@ -38,8 +38,8 @@ idWord RTag id size = 0
 idWord Hsr id size = idAndSize id size
 idWord Prp id size = idAndSize id size
 
--- what the six octets are, as three words: "F1 C1, two reserved octets, a 16-bit number"; "892F, path id 4 bits, size 12, number 16"; and the
--- other way round "number 16, LAN id 4, size 12, 88FB"
+-- what the six octets are, as three words: "F1 C1, two reserved octets, a 16-bit number"; "892F, path id 4 bits, size 12, number 16"; and
+-- the other way round "number 16, LAN id 4, size 12, 88FB"
 unfoldable pub words : Encoding → (number id size : ℕ) → List ℕ
 words e number id size =
     cond (inFront e) (mark e ∷ idWord e id size ∷ number ∷ []) (number ∷ idWord e id size ∷ mark e ∷ [])

@@ -9,9 +9,11 @@ use frame::Header;
 use frame::Reading;
 ghost use mathlib.Core.Path.{_≡_};
 ghost use Prim.Native.Nat.{_≤_};
+ghost use mathlib.Core.Bool.{cond};
 ghost use lib.ListN.{length};
+ghost use Rattle.octets.specs.Number.{be16};
 ghost use Rattle.frame.specs.Reader.{reading};
-ghost use Rattle.encoding.specs.Encodings.{numberAt, idIn, trails, carries, sequence};
+ghost use Rattle.encoding.specs.Encodings.{inFront, idIn, trails, carries, sequence};
 ghost use Rattle.encoding.specs.Reader.{ReadsIn};
 
 // Everything about a frame, with the number that it carries in the encoding of its stream.
@@ -43,7 +45,7 @@ fn sequence(frame: &[u8], encoding: Encoding, h: Header) -> Sequence
     let word = octets::word16(frame, at + 2);
     Sequence {
         numbered: true,
-        number: octets::word16(frame, at + number_at(encoding)),
+        number: number_at(frame, encoding, at, h.number),
         path: id_in(encoding, word),
     }
 }
@@ -60,24 +62,28 @@ fn carries(frame: &[u8], encoding: Encoding, h: Header) -> bool
 }
 
 // Whether the last six octets of a payload of so many are a trailer with that suffix.
-fn trails(frame: &[u8], suffix: u16, octets: usize) -> bool
-    requires { ⌜ octets ≤ length (now frame) ⌝ }
-    ensures { λ r. ⌜ r ≡ trails (now (frame .entry)) suffix octets ⌝ }
+fn trails(frame: &[u8], suffix: u16, payload: usize) -> bool
+    requires { ⌜ payload ≤ length (now frame) ⌝ }
+    ensures { λ r. ⌜ r ≡ trails (now (frame .entry)) suffix payload ⌝ }
 {
-    if octets < 6 {
+    if payload < 6 {
         return false;
     }
     if octets::word16(frame, frame.len() - 2) != suffix {
         return false;
     }
-    (octets::word16(frame, frame.len() - 4) % 4096) as usize == octets
+    (octets::word16(frame, frame.len() - 4) % 4096) as usize == payload
 }
 
-// Where among the six octets the number stands.
-fn number_at(encoding: Encoding) -> usize
-    ensures { λ r. ⌜ r ≡ numberAt encoding ⌝ }
+// The number of the six octets at a place: that of the tag, which is read, or the first two of the trailer.
+fn number_at(frame: &[u8], encoding: Encoding, at: usize, tag: u16) -> u16
+    ensures { λ r. ⌜ r ≡ cond (inFront encoding) tag (be16 (now (frame .entry)) at) ⌝ }
 {
-    if in_front(encoding) { 4 } else { 0 }
+    if in_front(encoding) {
+        tag
+    } else {
+        octets::word16(frame, at)
+    }
 }
 
 // The path or LAN id, from the word that it shares with the size.

@@ -1,3 +1,4 @@
 pub mod Verdicts
 pub mod Accepted
+pub mod AsBefore
 pub mod Unique

@@ -1,7 +1,7 @@
 -- Which check decides a frame's reading, from what the tests on the way have shown. Assumes nothing.
 use Prim.Native.Nat.{ℕ, _+_, _%_, _≤_, _<_}
 use native.Mathlib.Omega.{arith}
-use mathlib.Core.Path.{_≡_, sym}
+use mathlib.Core.Path.{_≡_, refl, sym}
 use mathlib.Core.Bool.{Bool, true, false, cond}
 use mathlib.Core.List.{List, []}
 use lib.ListN.{length}
@@ -13,12 +13,26 @@ use Rattle.octets.proofs.Bools.{by-cases}
 use Rattle.frame.specs.declared.Header.{Header}
 use Rattle.frame.specs.declared.Reading.the-variants.{Frame, Refused}
 use Rattle.frame.specs.Layout as Layout
-use Rattle.frame.specs.Layout.{C-TAG, destination, source, tagPlace, announces, sequenced, announced, kind, kindPlace, payloadPlace}
-use Rattle.frame.specs.Reader.{Before, lengthChecks, ctagChecks, sequenceChecks, checks, header, answered, reading}
+use Rattle.frame.specs.Layout.{C-TAG, R-TAG, HSR-TAG, tagPlace, announces, sequenced}
+use Rattle.frame.specs.Layout.{announced, number, kind, kindPlace, payloadPlace}
+use Rattle.frame.specs.Reader.{Before, lengthChecks, ctagChecks, sequenceChecks, checks, headerOf, header, answered, reading}
 
 tagPlace-bounds : (o : List ℕ) → (12 ≤ tagPlace o) × (tagPlace o ≤ 16)
 unfolding tagPlace
 tagPlace-bounds o = by-cases (Layout.tagged o) (λ e. rw e (omega arith, omega arith)) (λ e. rw e (omega arith, omega arith))
+
+-- which types announce a sequence tag
+pub announced-by-rtag : {type : ℕ} → type ≡ R-TAG → announces type ≡ true
+unfolding announces
+announced-by-rtag e = rw e refl
+
+pub announced-by-hsr : {type : ℕ} → type ≡ HSR-TAG → announces type ≡ true
+unfolding announces
+announced-by-hsr e = rw e refl
+
+pub announced-by-none : (type : ℕ) → (type ≡ R-TAG → ⊥) → (type ≡ HSR-TAG → ⊥) → announces type ≡ false
+unfolding announces
+announced-by-none type r h = simp (ne-eqb _ _ r, ne-eqb _ _ h)
 
 module _ (o : List ℕ) where
   pub too-short : length o < 14 → Refused 1 ≡ reading o
@@ -61,18 +75,9 @@ module _ (o : List ℕ) (least : 14 ≤ length o) (most : length o ≤ 1522) whe
           left = simp (le-ltb _ _ least, le-ltb _ _ most, e, le-ltb _ _ h, ne-eqb _ _ v, ne-eqb _ _ t);
         }
 
--- a header by what was read on the way: what announces a sequence tag, and the last type at a place with the payload behind it
-unfoldable pub headerAt : List ℕ → Bool → ℕ → ℕ → ℕ → Header
-headerAt o t v type at =
-    record {
-      destination = destination o;
-      source = source o;
-      tagged = t;
-      vlan = v;
-      announced = type;
-      kind = be16 o at;
-      payload = at + 2;
-    }
+-- a header by what was read on the way: a sequence tag's type and number, and the last type at a place with the payload behind it
+unfoldable pub headerAt : List ℕ → Bool → ℕ → ℕ → ℕ → ℕ → Header
+headerAt o t v type n at = headerOf o t v type n (be16 o at) (at + 2)
 
 -- from the sequence tag's place on
 module _ {o : List ℕ} {at : ℕ} {t : Bool} {v : ℕ} (b : Before o at t v) where
@@ -89,8 +94,8 @@ module _ {o : List ℕ} {at : ℕ} {t : Bool} {v : ℕ} (b : Before o at t v) wh
   unfolding sequenced
   is-sequenced e = rw (← b .place) e
 
-  pub bare : announces (be16 o at) ≡ false → Frame (headerAt o t v 0 at) ≡ reading o
-  unfolding headerAt header verdict announced kind kindPlace payloadPlace
+  pub bare : announces (be16 o at) ≡ false → Frame (headerAt o t v 0 0 at) ≡ reading o
+  unfolding headerAt header verdict announced number kind kindPlace payloadPlace
   bare n =
       let e = is-sequenced n in
       simp (b .place, b .isTagged, b .isVlan) (rw (← comes-to good (simp e)) (simp e))
@@ -114,8 +119,8 @@ module _ {o : List ℕ} {at : ℕ} {t : Bool} {v : ℕ} (b : Before o at t v) wh
         unfolding verdict sequenceChecks
         tag-behind e = comes-to (refuse 4) (simp (is-sequenced r, ← b .place, whole, ne-eqb _ _ c, e))
 
-        pub with-tag : announces (be16 o (at + 6)) ≡ false → Frame (headerAt o t v (be16 o at) (at + 6)) ≡ reading o
-        unfolding headerAt header verdict sequenceChecks announced kind kindPlace payloadPlace
+        pub with-tag : announces (be16 o (at + 6)) ≡ false → Frame (headerAt o t v (be16 o at) (be16 o (at + 4)) (at + 6)) ≡ reading o
+        unfolding headerAt header verdict sequenceChecks announced number kind kindPlace payloadPlace
         with-tag e =
             let clear = comes-to good (simp (is-sequenced r, ← b .place, whole, ne-eqb _ _ c, e)) in
             rw (← clear) (simp (b .isTagged, b .isVlan, is-sequenced r, ← b .place))

@@ -1,5 +1,5 @@
--- Where things stand in a frame, whatever the encoding of its stream (document 01, "Reading a frame"; document 02, CR 5). The octets are a list `o`; what stands past its end counts as 0, and
--- `checks` of Reader refuses where that matters. Assumes nothing.
+-- Where things stand in a frame, whatever the encoding of its stream (document 01, "Reading a frame"; document 02, CR 5). The octets are a
+-- list `o`; what stands past its end counts as 0, and `checks` of Reader refuses where that matters. Assumes nothing.
 use Prim.Native.Nat.{ℕ, _+_, _-_, _%_}
 use mathlib.Core.Bool.{Bool, cond, _||_}
 use mathlib.Core.List.{List}
@@ -50,6 +50,10 @@ sequenced o = announces (be16 o (tagPlace o))
 -- the type that announces it, 0 without one
 unfoldable pub announced : List ℕ → ℕ
 announced o = cond (sequenced o) (be16 o (tagPlace o)) 0
+
+-- "a 16-bit number", and "number 16": the last two octets of either; 0 without one
+unfoldable pub number : List ℕ → ℕ
+number o = cond (sequenced o) (be16 o (tagPlace o + 4)) 0
 
 -- "six octets", of either
 abbrev pub tagLength : ℕ

@@ -1,3 +1,4 @@
 pub mod Layout
 pub mod Reader
 pub mod Part
+pub mod AsBefore

@@ -12,7 +12,7 @@ use Rattle.frame.specs.declared.Reading.{Reading}
 use Rattle.frame.specs.declared.Reading.the-variants.{Frame, Refused}
 use Rattle.frame.specs.Layout as Layout
 use Rattle.frame.specs.Layout.{C-TAG, destination, source, tagged, vlan, tagPlace, tagLength}
-use Rattle.frame.specs.Layout.{announces, sequenced, announced, kind, payloadPlace}
+use Rattle.frame.specs.Layout.{announces, sequenced, announced, number, kind, payloadPlace}
 
 -- "Length 14 to 1,522": "frame under 14; over 1,522"
 unfoldable pub lengthChecks : List ℕ → List Check
@@ -34,18 +34,23 @@ sequenceChecks o =
 unfoldable pub checks : List ℕ → List Check
 checks o = lengthChecks o ++ (cond (tagged o) (ctagChecks o) [] ++ cond (sequenced o) (sequenceChecks o) [])
 
--- what is read of a good frame, in the order in which document 01 names it
-unfoldable pub header : List ℕ → Header
-header o =
+-- a header, in the order in which document 01 names what it says, by what the tags of a frame say
+abbrev pub headerOf : List ℕ → Bool → (vlan announced number kind payload : ℕ) → Header
+headerOf o tagged vlan announced number kind payload =
     record {
       destination = destination o;
       source = source o;
-      tagged = tagged o;
-      vlan = vlan o;
-      announced = announced o;
-      kind = kind o;
-      payload = payloadPlace o;
+      tagged = tagged;
+      vlan = vlan;
+      announced = announced;
+      number = number;
+      kind = kind;
+      payload = payload;
     }
+
+-- what is read of a good frame
+unfoldable pub header : List ℕ → Header
+header o = headerOf o (tagged o) (vlan o) (announced o) (number o) (kind o) (payloadPlace o)
 
 -- the header where the checks are good, and on a refusal "the number alone"
 abbrev pub answered : Verdict → Header → Reading
@@ -56,8 +61,8 @@ answered (refuse n) h = Refused n
 unfoldable pub reading : List ℕ → Reading
 reading o = answered (verdict (checks o)) (header o)
 
--- what `from_tag_place` asks of its callers: all before the sequence tag's place is read and good, so that only the checks at such a tag are
--- left
+-- what `from_tag_place` asks of its callers: all before the sequence tag's place is read and good, so that only the checks at such a tag
+-- are left
 pub record Before (o : List ℕ) (at : ℕ) (tagged : Bool) (vlan : ℕ) : Type 0 where
   pub place : at ≡ tagPlace o
   pub isTagged : tagged ≡ Layout.tagged o

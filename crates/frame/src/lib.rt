@@ -14,8 +14,9 @@ pub struct Header {
     // It has a C-TAG; `vlan` is 0 without one.
     pub tagged: bool,
     pub vlan: u16,
-    // The type that announces its sequence tag, F1C1 or 892F; 0 without one.
+    // The type that announces its sequence tag, F1C1 or 892F, and the number in it; 0 without one.
     pub announced: u16,
+    pub number: u16,
     // The last type.
     pub kind: u16,
     // Where the payload starts.

@@ -1,6 +1,6 @@
 -- Document 01, "Reading a frame", and document 02, CR 5, for C: what the calls answer and write, by the definitions of `frame` and
--- `encoding`. A record is lent words: a header stands at its start, and later words stay, as the paper has it of an output's octets; a record
--- that is shorter than the header is 8. Assumes nothing.
+-- `encoding`. A record is lent words: a header stands at its start, and later words stay, as the paper has it of an output's octets; a
+-- record that is shorter than the header is 8. Assumes nothing.
 use Prim.Native.Nat.{ℕ}
 use mathlib.Core.Path.{_≡_}
 use mathlib.Core.Bool.{cond, not}

@@ -1,5 +1,5 @@
-// "Reading a frame" (document 01; document 02, CR 5) for C: the header as a record of words, a payload as its length. The encoding is in the
-// name of the call, so that no other can be handed in.
+// "Reading a frame" (document 01; document 02, CR 5) for C: the header as a record of words, a payload as its length. The encoding is in
+// the name of the call, so that no other can be handed in.
 use encoding::Encoding;
 use encoding::Packet;
 use encoding::Sequence;

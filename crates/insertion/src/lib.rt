@@ -65,6 +65,6 @@ fn write_tagged(rest: &[u8], six: [u8; 6], out: &mut [u8])
     requires { ⌜ length (now rest) + 6 ≤ length (now out) ⌝ }
     ensures { λ _. ⌜ Puts (six ++ now (rest .entry)) (now (out .entry)) true (now (out .exit)) ⌝ }
 {
-    octets::put(&six, out);
-    octets::put(rest, &mut out[6..]);
+    bytes::copy(&six, out);
+    bytes::copy(rest, &mut out[6..]);
 }

@@ -51,7 +51,8 @@ module _ (e : Encoding) (o out : List ℕ) where
       remove-no-room l = refuses (removed e o) out (read-good o _ (header-of e o r .0) ∙ simp (told t, lt-ltb _ _ l))
 
       pub remove-done : length o - 6 ≤ length out → {later : List ℕ}
-          → later ≡ putIn (removedAt o (place e (h .payload - 8) (length o - 6))) out → Removes e o out (Written.Length (length o - 6)) later
+          → later ≡ putIn (removedAt o (place e (h .payload - 8) (length o - 6))) out
+          → Removes e o out (Written.Length (length o - 6)) later
       unfolding removeChecks verdict removed
       remove-done l f =
           writes

@@ -34,6 +34,6 @@ fn write_without(frame: &[u8], at: usize, out: &mut [u8])
     ensures { λ _. ⌜ now (out .exit) ≡ putIn (removedAt (now (frame .entry)) at) (now (out .entry)) ⌝ }
 {
     let behind = at + 6;
-    octets::put(&frame[..at], out);
-    octets::put(&frame[behind..], &mut out[at..]);
+    bytes::copy(&frame[..at], out);
+    bytes::copy(&frame[behind..], &mut out[at..]);
 }

@@ -4,7 +4,8 @@ use mathlib.Core.Path.{_≡_, refl}
 use mathlib.Core.List.{List, [], _∷_, _++_, map}
 use Rattle.octets.specs.Number.{be16, be32, be48}
 use Rattle.octets.specs.Checks.{verdict, _then_}
-use Rattle.frame.specs.Layout.{destination, source, tagged, vlan, tagPlace, announces, sequenced, announced, kindPlace, kind, payloadPlace}
+use Rattle.frame.specs.Layout.{destination, source, tagged, vlan, tagPlace, announces, sequenced, announced}
+use Rattle.frame.specs.Layout.{number, kindPlace, kind, payloadPlace}
 use Rattle.frame.specs.Reader.{lengthChecks, ctagChecks, sequenceChecks, checks, header}
 use Rattle.streams.specs.declared.Found.{Found}
 use Rattle.streams.specs.declared.Found.the-variants.{Stream, NoStream, Refused}
@@ -68,5 +69,5 @@ as-listed : map (λ (x : Row). lookupOf (x .table) (x .frame)) rows ≡ map (λ 
 unfolding rows row entry plain inVlan short receiver sender
     lookupOf tableVerdict tableChecks entryChecks entries entriesAfter bodyLength fields outOfRange firstMatch
     matches allows choiceAllows addressOf verdict _then_ be16 be32 be48 checks lengthChecks ctagChecks sequenceChecks
-    header destination source tagged vlan tagPlace announces sequenced announced kindPlace kind payloadPlace
+    header destination source tagged vlan tagPlace announces sequenced announced number kindPlace kind payloadPlace
 as-listed = refl

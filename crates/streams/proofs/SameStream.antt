@@ -2,7 +2,6 @@
 -- nothing.
 use Prim.Native.Nat.{ℕ}
 use mathlib.Core.Path.{_≡_, refl, sym, _∙_}
-use mathlib.Core.Bool.{false}
 use mathlib.Core.List.{List, [], _∷_}
 use lib.ListN.{length}
 use Rattle.octets.specs.Checks.{verdict}
@@ -16,7 +15,8 @@ use Rattle.encoding.specs.Encodings.{inFront}
 use Rattle.tag.specs.Insertion.{inserted, insertChecks}
 use Rattle.tag.specs.Removal.{removed, removeChecks}
 use Rattle.tag.specs.RoundTrip.{retagged, withTag, withoutTag}
-use Rattle.tag.proofs.RoundTrip.{insertable, removable, inserted-reads, removed-reads}
+use Rattle.tag.proofs.Inserted.{insertable, inserted-reads}
+use Rattle.tag.proofs.Removed.{removable, removed-reads}
 use Rattle.tag.proofs.Trips.{wrote}
 use Rattle.entry.specs.Matching.{allows, addressOf, matches}
 use Rattle.streams.specs.Table.{entries, firstMatch, lookupOf, walked}
@@ -32,6 +32,7 @@ asked h =
       tagged = h .tagged;
       vlan = h .vlan;
       announced = 0;
+      number = 0;
       kind = 0;
       payload = 0;
     }
@@ -49,9 +50,9 @@ lookup-asked t o p {h} {g} e f same =
     sym (walk-answers t o e) ∙ (rw found (walk-answers t p f))
 
 -- what a tag or a trailer changes in a header is not asked
-asked-tagged : (e : Encoding) (h : Header) → asked (withTag e h) ≡ asked h
+asked-tagged : (e : Encoding) (n : ℕ) (h : Header) → asked (withTag e n h) ≡ asked h
 unfolding withTag retagged asked
-asked-tagged e h = by-cases (inFront e) (λ f. rw f) (λ f. rw f)
+asked-tagged e n h = by-cases (inFront e) (λ f. rw f) (λ f. rw f)
 
 asked-untagged : (e : Encoding) (h : Header) → asked (withoutTag e h) ≡ asked h
 unfolding withoutTag retagged asked
@@ -63,7 +64,7 @@ same-when-inserted t e o n id out k later r p q =
     let w = wrote (verdict (insertChecks e o id (length out))) p in
     let was = good-frame o (insertable e o id (length out) (w .accepted) .reads) in
     let is = inserted-reads e o n id (length out) (w .accepted) was in
-    rw (w .written) at q ∙ lookup-asked t (inserted e o n id) o is was (asked-tagged e _)
+    rw (w .written) at q ∙ lookup-asked t (inserted e o n id) o is was (asked-tagged e n _)
 
 pub same-when-removed : SameWhenRemoved
 same-when-removed t e o out k later r p q =

@@ -92,6 +92,7 @@ fn no_frame() -> Header {
         tagged: false,
         vlan: 0,
         announced: 0,
+        number: 0,
         kind: 0,
         payload: 0,
     }

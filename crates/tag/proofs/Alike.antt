@@ -1,8 +1,8 @@
--- What every stream reads of a frame with six octets more or less: a sequence tag put in at its place moves the payload on, and octets behind
--- the payload's start change nothing. Assumes nothing.
-use Prim.Native.Nat.{ℕ, _+_, _-_, _%_, _≤_, _<_}
+-- What every stream reads of a frame with six octets more or less: a sequence tag put in at its place moves the payload on, and octets
+-- behind the payload's start change nothing. Assumes nothing.
+use Prim.Native.Nat.{ℕ, _+_, _-_, _≤_, _<_}
 use native.Mathlib.Omega.{arith}
-use mathlib.Core.Path.{_≡_, refl, sym, _∙_}
+use mathlib.Core.Path.{_≡_, sym, _∙_}
 use mathlib.Core.Bool.{Bool, true, false, false≢true}
 use mathlib.Core.List.{List}
 use lib.ListN.{length, getD}
@@ -25,7 +25,7 @@ pub record Same (x y : List ℕ) (at : ℕ) : Type 0 where
 
 -- so it has its numbers there
 module _ {x y : List ℕ} {at : ℕ} (same : Same x y at) where
-  pub same-word : (k : ℕ) → k + 1 < at → be16 y k ≡ be16 x k
+  same-word : (k : ℕ) → k + 1 < at → be16 y k ≡ be16 x k
   unfolding be16
   same-word k h = omega (arith, same .octet k (omega arith), same .octet (k + 1) h)
 
@@ -34,9 +34,10 @@ module _ {x y : List ℕ} {at : ℕ} (same : Same x y at) where
   same-address k h = omega (arith, same-word k (omega arith), same-word (k + 2) (omega arith), same-word (k + 2 + 2) (omega arith))
 
   -- and its header but for what it says of a sequence tag, where the last types are equal
-  same-header : 12 ≤ at → (t : Bool) (v l m p q : ℕ) → be16 y q ≡ be16 x p → headerAt y t v m q ≡ retagged (headerAt x t v l p) m (q + 2)
+  same-header : 12 ≤ at → (t : Bool) (v l m p q a b : ℕ) → be16 y q ≡ be16 x p
+      → headerAt y t v m b q ≡ retagged (headerAt x t v l a p) m b (q + 2)
   unfolding headerAt retagged destination source
-  same-header far t v l m p q e = simp (same-address 0 (omega arith), same-address 6 (omega arith), e)
+  same-header far t v l m p q a b e = simp (same-address 0 (omega arith), same-address 6 (omega arith), e)
 
 -- a type that announces a sequence tag announces no C-TAG
 pub no-type-of-both : {m : ℕ} → announces m ≡ true → m ≡ C-TAG → ⊥
@@ -80,27 +81,29 @@ module _ {b i : List ℕ} {at : ℕ} (T : Spliced b i at) where
   -- all before the place is read and good, of both
   module _ {t : Bool} {v : ℕ} (below : Before b at t v) (above : Before i at t v)
       (there : announces (be16 i at) ≡ true) (c : be16 b at ≡ C-TAG → ⊥) (r : announces (be16 b at) ≡ false) (l : at + 8 ≤ length i) where
-    reads-bare : Frame (headerAt b t v 0 at) ≡ reading b
+    reads-bare : Frame (headerAt b t v 0 0 at) ≡ reading b
     reads-bare = bare below r
 
-    reads-tagged : Frame (retagged (headerAt b t v 0 at) (be16 i at) (at + 6 + 2)) ≡ reading i
+    reads-tagged : Frame (retagged (headerAt b t v 0 0 at) (be16 i at) (be16 i (at + 4)) (at + 6 + 2)) ≡ reading i
     reads-tagged =
         let behind = word-behind at (omega arith) in
-        let like = same-header {x = b} (record { octet = T .before }) (place-bounds below .0) t v 0 (be16 i at) at (at + 6) behind in
+        let far = place-bounds below .0 in
+        let same : Same b i at = record { octet = T .before } in
+        let like = same-header same far t v 0 (be16 i at) at (at + 6) 0 (be16 i (at + 4)) behind in
         rw (← like) (with-tag above there l (λ x. c (sym behind ∙ x)) (rw behind r))
 
     module _ {h : Header} where
-      pub reads-in : Frame h ≡ reading b → Frame (retagged h (be16 i at) (h .payload + 6)) ≡ reading i
+      pub reads-in : Frame h ≡ reading b → Frame (retagged h (be16 i at) (be16 i (at + 4)) (h .payload + 6)) ≡ reading i
       unfolding headerAt retagged
       reads-in e =
-          let is : h ≡ headerAt b t v 0 at = cc reads-bare in
+          let is : h ≡ headerAt b t v 0 0 at = cc reads-bare in
           let eight : at + 2 + 6 ≡ at + 6 + 2 = omega arith in
           rw is (simp eight reads-tagged)
 
-      pub reads-off : Frame h ≡ reading i → Frame (retagged h 0 (h .payload - 6)) ≡ reading b
+      pub reads-off : Frame h ≡ reading i → Frame (retagged h 0 0 (h .payload - 6)) ≡ reading b
       unfolding headerAt retagged
       reads-off e =
-          let is : h ≡ retagged (headerAt b t v 0 at) (be16 i at) (at + 6 + 2) = cc reads-tagged in
+          let is : h ≡ retagged (headerAt b t v 0 0 at) (be16 i at) (be16 i (at + 4)) (at + 6 + 2) = cc reads-tagged in
           let two : at + 6 + 2 - 6 ≡ at + 2 = omega arith in
           simp (is, two) reads-bare
 
@@ -121,10 +124,10 @@ module _ (x y : List ℕ) (ok : verdict (checks x) ≡ good) (same : Same x y (p
       (λ z. no-ctag x ok (sym type-there ∙ z))
 
   -- a header with the last type at a place before the payload
-  header-there : (m p : ℕ) → p + 1 < payloadPlace x → headerAt y (tagged x) (vlan x) m p ≡ headerAt x (tagged x) (vlan x) m p
+  header-there : (m n p : ℕ) → p + 1 < payloadPlace x → headerAt y (tagged x) (vlan x) m n p ≡ headerAt x (tagged x) (vlan x) m n p
   unfolding headerAt retagged
-  header-there m p h =
-      same-header same (omega (arith, place-before, place-bounds above .0)) (tagged x) (vlan x) m m p p (same-word same p h)
+  header-there m n p h =
+      same-header same (omega (arith, place-before, place-bounds above .0)) (tagged x) (vlan x) m m p p n n (same-word same p h)
 
   pub same-reading : reading y ≡ reading x
   unfolding sequenced
@@ -137,10 +140,14 @@ module _ (x y : List ℕ) (ok : verdict (checks x) ≡ good) (same : Same x y (p
           let behind = same-word same (tagPlace x + 6) (omega arith) in
           let reads = with-tag above (rw type-there s) (omega arith) (λ z. g .1 (sym behind ∙ z)) (rw behind (g .2)) in
           sym reads
-          ∙ rw (type-there, header-there (be16 x (tagPlace x)) (tagPlace x + 6) (omega arith))
+          ∙ rw (
+            type-there,
+            same-word same (tagPlace x + 4) (omega arith),
+            header-there (be16 x (tagPlace x)) (be16 x (tagPlace x + 4)) (tagPlace x + 6) (omega arith),
+          )
           (with-tag (good-before x ok) s (omega (arith, g .0)) (g .1) (g .2))
 
       without : sequenced x ≡ false → reading y ≡ reading x
       without s =
           let p = payload-bare x s in
-          sym (bare above (rw type-there s)) ∙ rw (header-there 0 (tagPlace x) (omega arith)) (bare (good-before x ok) s)
+          sym (bare above (rw type-there s)) ∙ rw (header-there 0 0 (tagPlace x) (omega arith)) (bare (good-before x ok) s)

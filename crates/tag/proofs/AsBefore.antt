@@ -8,8 +8,8 @@ use Rattle.octets.specs.Checks.{verdict}
 use Rattle.octets.proofs.Order.{verdict-append}
 use Rattle.encoding.specs.declared.Encoding.the-variants.{RTag}
 use Rattle.encoding.specs.Encodings.{inFront, place, mark, idWord, words, asOctets, six, carries, standing}
-use Rattle.encoding.specs.AsBefore.{hasRTag, hasHsrTag}
-use Rattle.encoding.proofs.AsBefore.{only-rtag, same-checks}
+use Rattle.frame.specs.AsBefore.{hasRTag, hasHsrTag}
+use Rattle.frame.proofs.AsBefore.{only-rtag, same-checks}
 use Rattle.tag.specs.Insertion.{insertedAt, inserted, insertChecks}
 use Rattle.tag.specs.Removal.{removedAt, removed, removeChecks}
 use Rattle.tag.specs.AsBefore.{rtag, insertedBefore, insertChecksBefore, removedBefore, removeChecksBefore}

@@ -2,6 +2,7 @@ pub mod Splice
 pub mod Decided
 pub mod Unique
 pub mod Alike
-pub mod RoundTrip
+pub mod Inserted
+pub mod Removed
 pub mod Trips
 pub mod AsBefore

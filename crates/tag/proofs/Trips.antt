@@ -13,9 +13,9 @@ use Rattle.tag.specs.Output.{Writes}
 use Rattle.tag.specs.Insertion.{inserted, insertChecks}
 use Rattle.tag.specs.Removal.{removed, removeChecks}
 use Rattle.tag.specs.RoundTrip.{InsertThenRemove, RemoveThenInsert, InsertThenRead, RemoveThenRead}
-use Rattle.tag.proofs.RoundTrip.{inserted-removed, inserted-removable, inserted-reads, inserted-sequence}
-use Rattle.tag.proofs.RoundTrip.{id-small, removed-inserted, removed-inserted-length, removed-insertable}
-use Rattle.tag.proofs.RoundTrip.{removed-reads, removed-unnumbered}
+use Rattle.tag.proofs.Inserted.{inserted-removed, inserted-removable, inserted-reads, inserted-sequence}
+use Rattle.tag.proofs.Removed.{id-small, as-written, removed-inserted, removed-inserted-length, removed-insertable}
+use Rattle.tag.proofs.Removed.{removed-reads, removed-unnumbered}
 
 -- a call that answered a length wrote its result, and the verdict was good
 pub record Wrote (v : Verdict) (result : List ℕ) (k : ℕ) (later : List ℕ) : Type 0 where
@@ -49,8 +49,12 @@ remove-then-insert e o out k later out′ r later′ octets p room q =
     let a = answers (removed-insertable e o (length out) (w .accepted) id (length out′) small room) (rw (w .written) at q) in
     let only = removed-inserted e o (length out) (w .accepted) octets in
     let long = removed-inserted-length e o (length out) (w .accepted) number id in
-    let same = rw long at (a .1) in
-    (a .0 ∙ simp long, λ x. only .0 (sym same ∙ x), λ z. same ∙ only .1 z)
+    let same = rw long at (a .1) in (
+      a .0 ∙ simp long,
+      λ x. only .0 (sym same ∙ x),
+      λ z. same ∙ only .1 z,
+      as-written e o (length out) (w .accepted) octets,
+    )
 
 pub insert-then-read : InsertThenRead
 insert-then-read e o n id out k later h s r p q t =

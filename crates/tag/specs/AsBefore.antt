@@ -1,5 +1,5 @@
--- The R-TAG put in and taken off as document 01 has it, when 892F was no tag: the old promises, which hold as they did for every frame without
--- an HSR tag. Two claims, which proofs/AsBefore proves. Assumes nothing.
+-- The R-TAG put in and taken off as document 01 has it, when 892F was no tag: the old promises, which hold as they did for every frame
+-- without an HSR tag. Two claims, which proofs/AsBefore proves. Assumes nothing.
 use Prim.Native.Nat.{ℕ, _+_, _-_, _/_, _%_}
 use mathlib.Core.Path.{_≡_}
 use mathlib.Core.Bool.{false, not}
@@ -9,7 +9,7 @@ use lib.Dec.{ltb}
 use Rattle.octets.specs.Checks.{Check, _⇒_, verdict}
 use Rattle.frame.specs.Layout.{tagPlace, tagLength}
 use Rattle.encoding.specs.declared.Encoding.the-variants.{RTag}
-use Rattle.encoding.specs.AsBefore.{hasRTag, hasHsrTag, checksBefore}
+use Rattle.frame.specs.AsBefore.{hasRTag, hasHsrTag, checksBefore}
 use Rattle.tag.specs.declared.Written.{Written}
 use Rattle.tag.specs.Output.{Writes}
 use Rattle.tag.specs.Insertion.{Inserts}

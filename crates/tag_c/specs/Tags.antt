@@ -1,5 +1,5 @@
--- Document 01, "Reading a frame", and document 02, CR 5, for C: a tag or a trailer put in and taken off, by the definitions of `tag`. Assumes
--- nothing.
+-- Document 01, "Reading a frame", and document 02, CR 5, for C: a tag or a trailer put in and taken off, by the definitions of `tag`.
+-- Assumes nothing.
 use Prim.Native.Nat.{ℕ}
 use mathlib.Core.Path.{_≡_}
 use mathlib.Core.List.{List}

@@ -1,5 +1,5 @@
-// "Reading a frame" (document 01; document 02, CR 5) for C: a tag or a trailer put in and taken off. The encoding is in the name of the call,
-// so that no other can be handed in.
+// "Reading a frame" (document 01; document 02, CR 5) for C: a tag or a trailer put in and taken off. The encoding is in the name of the
+// call, so that no other can be handed in.
 use encoding::Encoding;
 use tag::Written;
 ghost use Rattle.encoding.specs.declared.Encoding.the-variants.{RTag, Hsr, Prp};
@@ -24,7 +24,8 @@ pub extern "C" fn ahz_insert_hsr(
     length: &mut usize,
 ) -> u8
     ensures { λ r.
-        ⌜ InsertsTo Hsr (now (frame .entry)) number path (now (out .entry)) (now (length .entry)) r (now (out .exit)) (now (length .exit)) ⌝ }
+        ⌜ InsertsTo Hsr (now (frame .entry)) number path (now (out .entry)) (now (length .entry)) r (now (out .exit))
+        (now (length .exit)) ⌝ }
 {
     insert_to(frame, Encoding::Hsr, number, path, out, length)
 }
@@ -39,7 +40,8 @@ pub extern "C" fn ahz_insert_prp(
     length: &mut usize,
 ) -> u8
     ensures { λ r.
-        ⌜ InsertsTo Prp (now (frame .entry)) number lan (now (out .entry)) (now (length .entry)) r (now (out .exit)) (now (length .exit)) ⌝ }
+        ⌜ InsertsTo Prp (now (frame .entry)) number lan (now (out .entry)) (now (length .entry)) r (now (out .exit))
+        (now (length .exit)) ⌝ }
 {
     insert_to(frame, Encoding::Prp, number, lan, out, length)
 }

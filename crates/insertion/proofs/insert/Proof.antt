@@ -12,7 +12,8 @@ use Rattle.frame.specs.Reader.{reading}
 use Rattle.frame.proofs.Accepted.{starts-within}
 use Rattle.encoding.specs.Encodings.{inFront}
 use Rattle.encoding.proofs.Carried.{far}
-use Rattle.insertion.proofs.Decided.{insert-unread, insert-over, insert-there, insert-long, insert-no-room, place-within, insert-done}
+use Rattle.insertion.proofs.Decided.{place-within, insert-unread, insert-over, insert-there, insert-long}
+use Rattle.insertion.proofs.Decided.{insert-no-room, insert-done}
 use Rattle.insertion.proofs.insert.Statement.{statement}
 use Rattle.insertion.proofs.insert.Tie as tie
 

@@ -28,7 +28,9 @@ returns c =
     let at-back = c .before .before in
     let at-front = at-back .before .before .before .before .before in
     let start = at-front .before .before .before .before .before in
-    put-with (start .args .frame .now) (start .args .six) (start .args .out .now) (start .args .at) (search (start .good, needs)) (start .pre .0) (start .pre .1)
+    put-with (start .args .frame .now) (start .args .six) (start .args .out .now) (start .args .at) (search (start .good, needs))
+    (start .pre .0)
+    (start .pre .1)
     (at-front .put .ensures)
     (at-back .write-tagged .ensures)
 

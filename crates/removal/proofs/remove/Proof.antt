@@ -72,8 +72,8 @@ write-without-requires c κs =
     let at-place = c .before in
     let room = at-place .before .before in
     let numbered = room .before in
-    let within = place-within _ _ (start (numbered .before .before .before) .args .out .now) (packet-read (numbered .before .before .before))
-    (not-false _ (numbered .if1 .left)) in
+    let at-h = numbered .before .before .before in
+    let within = place-within _ _ (start at-h .args .out .now) (packet-read at-h) (not-false _ (numbered .if1 .left)) in
     (rw (at-place .place .ensures) within, omega arith)
 
 enum-known-no : tie.Need-enum-known-no

@@ -32,4 +32,5 @@ cast-result-2 : tie.Need-cast-result-2
 cast-result-2 c = search needs
 
 pub id-in-spec : {M : Type 1} → statement M
-id-in-spec = tie.close (search (tie.spec, enum-told, enum-told-2, cast-result, enum-told-3, cast-result-2, returns, returns-2, returns-3, needs))
+id-in-spec =
+    tie.close (search (tie.spec, enum-told, enum-told-2, cast-result, enum-told-3, cast-result-2, returns, returns-2, returns-3, needs))

@@ -1,5 +1,5 @@
--- `encoding::reader::read` meets its promise: the header that every stream reads and what the frame carries, or the refusal. Assumes nothing.
-use Prim.Native.Nat.{ℕ}
+-- `encoding::reader::read` meets its promise: the header that every stream reads and what the frame carries, or the refusal. Assumes
+-- nothing.
 use mathlib.Core.Path.{_≡_, sym, _∙_}
 use borrow.Author.Needs.{needs}
 use Rattle.frame.specs.declared.Reading.the-variants.{Frame}

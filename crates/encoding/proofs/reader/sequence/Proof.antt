@@ -1,14 +1,14 @@
 -- `encoding::reader::sequence` meets its promise: no number, or the number and the id of the six octets where they stand. Assumes nothing.
 use Prim.Native.Nat.{_+_, _≤_}
 use native.Mathlib.Omega.{arith}
-use mathlib.Core.Path.{_≡_, sym, _∙_}
+use mathlib.Core.Path.{_≡_, _∙_}
 use mathlib.Core.Bool.{true}
 use lib.ListN.{length}
 use borrow.Author.Needs.{needs}
 use Rattle.octets.proofs.Bools.{said-yes, said-no}
 use Rattle.frame.proofs.Accepted.{frame-good, starts-within}
 use Rattle.encoding.specs.Encodings.{carries, standing, sequence}
-use Rattle.encoding.proofs.Carried.{far, stands-at, standing-within, number-within}
+use Rattle.encoding.proofs.Carried.{far, number-stands, stands-at, standing-within}
 use Rattle.encoding.proofs.reader.sequence.Statement.{statement}
 use Rattle.encoding.proofs.reader.sequence.Tie as tie
 
@@ -35,15 +35,18 @@ returns-2 : tie.Need-returns-2
 unfolding sequence
 returns-2 c =
     let at-number = c .before in
-    let at-word = at-number .before .before in
+    let at-word = at-number .before in
     let at-place = at-word .before in
+    let is = at-place .before .before in
+    let start = is .before .before .before in
+    let o = start .args .frame .now in
     simp (
-      carried (at-place .before .before),
+      carried is,
       c .id-in .ensures,
-      at-number .word162 .ensures,
-      at-number .before .number-at .ensures,
+      at-number .number-at .ensures,
       at-word .word16 .ensures,
       standing-at at-place,
+      number-stands (start .args .encoding) o (start .pre) (carried is),
     )
 
 carries-requires : tie.Need-carries-requires
@@ -68,11 +71,5 @@ within c =
 add-word16 : tie.Need-add-word16
 add-word16 c = omega (arith, within c)
 
-add-word16-2 : tie.Need-add-word16-2
-add-word16-2 c =
-    let at-place = c .before .before in
-    let start = at-place .before .before .before .before .before in
-    omega (arith, within at-place, c .number-at .ensures, number-within (start .args .encoding))
-
 pub sequence-spec : {M : Type 1} → statement M
-sequence-spec = tie.close (search (tie.spec, carries-requires, sub-place, sub-place-2, add-word16, add-word16-2, returns, returns-2, needs))
+sequence-spec = tie.close (search (tie.spec, carries-requires, sub-place, sub-place-2, add-word16, returns, returns-2, needs))

@@ -9,7 +9,7 @@ use Rattle.encoding.proofs.reader.trails.Tie as tie
 -- under 6 octets
 returns : tie.Need-returns
 unfolding trails
-returns c = simp (lt-leb _ _ (c .if1 .taken))
+returns c = let start = c .before .before in simp (lt-leb 6 (start .args .payload) (omega arith))
 
 -- without the suffix
 returns-2 : tie.Need-returns-2

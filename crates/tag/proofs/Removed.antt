@@ -1,14 +1,12 @@
--- The round trips of the octets: put in, then taken off, gives the first frame; taken off, then put in with the same number and id, gives it
--- exactly where the word between was as insertion writes it; and what the frames read as on the way. Trips says it of the calls. Assumes
--- nothing.
+-- A tag or a trailer taken off, as octets: what the frame reads as then, and that put in again with the same number and id it gives the first
+-- frame exactly where the word between was as insertion writes it. Trips says it of the calls. Assumes nothing.
 use Prim.Native.Nat.{ℕ, _+_, _-_, _≤_, _<_}
 use native.Mathlib.Omega.{arith}
 use mathlib.Core.Path.{_≡_, refl, sym, _∙_, ap}
 use mathlib.Core.Bool.{true, false, false≢true, _&&_}
 use mathlib.Core.List.{List, _++_}
 use lib.ListN.{length, getD, take, drop}
-use lib.Dec.{leb}
-use borrow.Author.Tests.{ltb-false, le-ltb, le-leb, eqb-true, eq-eqb, ne-eqb, not-false}
+use borrow.Author.Tests.{ltb-false, le-ltb, eqb-true, ne-eqb, not-false}
 use Rattle.octets.specs.Number.{be16}
 use Rattle.octets.specs.Checks.{good, verdict, _then_}
 use Rattle.octets.proofs.Bools.{by-cases}
@@ -16,44 +14,22 @@ use Rattle.octets.proofs.Order.{verdict-append, clear, both-good}
 use Rattle.frame.specs.declared.Header.{Header}
 use Rattle.frame.specs.declared.Reading.the-variants.{Frame}
 use Rattle.frame.specs.Layout.{C-TAG, tagged, vlan, tagPlace, announces, sequenced, payloadPlace, payloadLength}
-use Rattle.frame.specs.Reader.{Before, checks, header, reading}
-use Rattle.frame.proofs.Accepted.{most, frame-good, good-frame, payload-within, payload-bare, behind-tag, good-before, no-ctag}
+use Rattle.frame.specs.Reader.{Before, checks, reading}
+use Rattle.frame.proofs.Accepted.{most, frame-good, good-frame, behind-tag, good-before}
 use Rattle.encoding.specs.declared.Encoding.{Encoding}
 use Rattle.encoding.specs.declared.Encoding.the-variants.{RTag, Hsr, Prp}
-use Rattle.encoding.specs.Encodings.{inFront, place, mark, idAndSize, idWord, words, six, trails, carries, standing, numberAt, idIn}
-use Rattle.encoding.specs.Encodings.{numbered, unnumbered, sequence}
-use Rattle.encoding.proofs.Carried.{mark-announces, carries-front, carries-back, carried-sequenced, starts, trailed, standing-within, number-within}
-use Rattle.encoding.proofs.ThreeWords.{size-between, six-long, mark-first, mark-last, id-between, number-there}
+use Rattle.encoding.specs.Encodings.{inFront, place, mark, words, six, carries, standing, numberAt, idIn}
+use Rattle.encoding.specs.Encodings.{unnumbered, sequence}
+use Rattle.encoding.proofs.Carried.{mark-announces, carries-front, carried-sequenced, starts}
+use Rattle.encoding.proofs.Carried.{trailed, standing-within}
+use Rattle.encoding.proofs.ThreeWords.{written-again, six-long, id-between}
 use Rattle.tag.specs.Insertion.{inserted, insertChecks}
 use Rattle.tag.specs.Removal.{removed, removeChecks}
-use Rattle.tag.specs.RoundTrip.{AsWritten, retagged, withTag, withoutTag, idRead}
-use Rattle.tag.proofs.Splice.{Spliced, length-inserted, word-in, inserting, put-off, removing, off-put, with-own-six, six-of-words}
-use Rattle.tag.proofs.Alike.{no-type-of-both, before-alike, word-behind, reads-in, reads-off, same-reading}
+use Rattle.tag.specs.RoundTrip.{AsWritten, retagged, withoutTag}
+use Rattle.tag.proofs.Splice.{Spliced, length-inserted, word-in, removing, off-put, with-own-six, six-of-words}
+use Rattle.tag.proofs.Alike.{before-alike, word-behind, reads-off, same-reading}
 
--- what an accepted insertion says of the frame, the id and the room
-pub record Insertable (e : Encoding) (o : List ℕ) (id room : ℕ) : Type 0 where
-  pub reads : verdict (checks o) ≡ good
-  pub small : id ≤ 15
-  pub free : (inFront e && sequenced o) ≡ false
-  pub short : length o + 6 ≤ 1522
-  pub fits : length o + 6 ≤ room
-
-pub insertable : (e : Encoding) (o : List ℕ) (id room : ℕ) → verdict (insertChecks e o id room) ≡ good → Insertable e o id room
-unfolding insertChecks
-insertable e o id room a =
-    let g = both-good _ _ (sym (verdict-append (checks o) _) ∙ a) in
-    let i = clear _ _ _ (g .1) in
-    let n = clear _ _ _ (i .1) in
-    let s = clear _ _ _ (n .1) in
-    record {
-      reads = g .0;
-      small = ltb-false _ _ (i .0);
-      free = n .0;
-      short = ltb-false _ _ (s .0);
-      fits = ltb-false _ _ (clear _ _ _ (s .1) .0);
-    }
-
--- and an accepted removal
+-- what an accepted removal says of the frame and the room
 pub record Removable (e : Encoding) (o : List ℕ) (room : ℕ) : Type 0 where
   pub reads : verdict (checks o) ≡ good
   pub carried : carries e o ≡ true
@@ -66,13 +42,6 @@ removable e o room a =
     let n = clear _ _ _ (g .1) in
     record { reads = g .0; carried = not-false _ (n .0); fits = ltb-false _ _ (clear _ _ _ (n .1) .0) }
 
--- the id that is read of the word that was written
-id-read : (e : Encoding) (id size : ℕ) → id ≤ 15 → idIn e (idWord e id size) ≡ idRead e id
-unfolding idIn idWord idAndSize idRead
-id-read RTag id size s = refl
-id-read Hsr id size s = omega arith
-id-read Prp id size s = omega arith
-
 -- an id has four bits
 id-below : (e : Encoding) (word : ℕ) → word < 65536 → idIn e word ≤ 15
 unfolding idIn
@@ -83,145 +52,6 @@ id-below Prp word s = omega arith
 word-below : (o : List ℕ) → ((k : ℕ) → getD o k 0 < 256) → (at : ℕ) → be16 o at < 65536
 unfolding be16
 word-below o octets at = omega (arith, octets at, octets (at + 1))
-
--- put in
-module _ (e : Encoding) (o : List ℕ) (n id room : ℕ) (accepted : verdict (insertChecks e o id room) ≡ good) where
-  ins : Insertable e o id room
-  ins = insertable e o id room accepted
-
-  at : ℕ
-  at = place e (tagPlace o) (length o)
-
-  size : ℕ
-  size = payloadLength o + 6
-
-  -- a tag: there is none yet, and its place lies within the frame
-  module _ (f : inFront e ≡ true) where
-    no-tag : sequenced o ≡ false
-    no-tag = rw f at (ins .free)
-
-    bare-type : announces (be16 o (tagPlace o)) ≡ false
-    unfolding sequenced
-    bare-type = no-tag
-
-    type-within : tagPlace o + 2 ≤ length o
-    type-within = omega (arith, payload-bare o no-tag, payload-within o (ins .reads))
-
-    at-front : at ≡ tagPlace o
-    unfolding at place
-    at-front = rw f
-
-  at-back : inFront e ≡ false → at ≡ length o
-  unfolding at place
-  at-back f = rw f
-
-  within : at ≤ length o
-  within =
-      by-cases (inFront e) (λ f. omega (arith, at-front f, type-within f)) (λ f. omega (arith, at-back f))
-
-  splice : Spliced o (inserted e o n id) at
-  unfolding inserted at
-  splice = inserting o (six e n id (payloadLength o + 6)) at (six-long e n id (payloadLength o + 6)) within
-
-  -- the words that were put in
-  word-put : (k : ℕ) → k + 1 < 6 → be16 (inserted e o n id) (at + k) ≡ be16 (six e n id size) k
-  unfolding inserted at size
-  word-put = word-in o (six e n id (payloadLength o + 6)) at (six-long e n id (payloadLength o + 6)) within
-
-  -- a tag: what stands at its place now
-  module _ (f : inFront e ≡ true) where
-    announced-there : be16 (inserted e o n id) (tagPlace o) ≡ mark e
-    announced-there =
-        let p : at + 0 ≡ tagPlace o = omega (arith, at-front f) in
-        rw (← p) (word-put 0 (omega arith) ∙ mark-first e n id size f)
-
-    front-splice : Spliced o (inserted e o n id) (tagPlace o)
-    front-splice = rw (at-front f) at splice
-
-    front-before : Before (inserted e o n id) (tagPlace o) (tagged o) (vlan o)
-    front-before =
-        before-alike o (inserted e o n id) (ins .reads) (record { octet = front-splice .before })
-        (omega (arith, type-within f, splice .long))
-        (omega (arith, ins .short, splice .long))
-        (λ z. no-type-of-both (mark-announces e f) (sym announced-there ∙ z))
-
-    front-reads : {h : Header} → Frame h ≡ reading o → Frame (retagged h (mark e) (h .payload + 6)) ≡ reading (inserted e o n id)
-    front-reads r =
-        rw (announced-there)
-        at (reads-in front-splice (good-before o (ins .reads)) front-before (rw announced-there (mark-announces e f)) (no-ctag o (ins .reads))
-        (bare-type f)
-        (omega (arith, type-within f, splice .long))
-        r)
-
-  -- a trailer: all before it is as it was
-  module _ (f : inFront e ≡ false) where
-    back-reads : reading (inserted e o n id) ≡ reading o
-    back-reads =
-        let p = payload-within o (ins .reads) in
-        same-reading o (inserted e o n id) (ins .reads) (record { octet = λ k h. splice .before k (omega (arith, at-back f)) })
-        (omega (arith, splice .long))
-        (omega (arith, ins .short, splice .long))
-
-    back-length : payloadLength (inserted e o n id) ≡ size
-    unfolding payloadLength size
-    back-length =
-        let r = good-frame o (ins .reads) in
-        let was = starts o r in
-        let is = starts (inserted e o n id) (r ∙ sym back-reads) in
-        omega (arith, was, is, splice .long, payload-within o (ins .reads))
-
-  -- an inserted frame reads as the first one did
-  pub inserted-reads : {h : Header} → Frame h ≡ reading o → Frame (withTag e h) ≡ reading (inserted e o n id)
-  unfolding withTag
-  inserted-reads r = by-cases (inFront e) (λ f. rw f (front-reads f r)) (λ f. rw f (r ∙ sym (back-reads f)))
-
-  inserted-standing : standing e (inserted e o n id) ≡ at
-  unfolding standing place at
-  inserted-standing =
-      by-cases (inFront e) (λ f. rw f (sym (front-before f .place))) (λ f. rw f (omega (arith, splice .long)))
-
-  small-size : size < 4096
-  unfolding size payloadLength
-  small-size = omega (arith, ins .short)
-
-  six-more : leb 6 size ≡ true
-  unfolding size
-  six-more = le-leb 6 size (omega arith)
-
-  back-trails : inFront e ≡ false → trails (inserted e o n id) (mark e) size ≡ true
-  unfolding trails
-  back-trails f =
-      let last : length (inserted e o n id) - 2 ≡ at + 4 = omega (arith, splice .long, at-back f) in
-      let between : length (inserted e o n id) - 4 ≡ at + 2 = omega (arith, splice .long, at-back f) in
-      let marked = word-put 4 (omega arith) ∙ mark-last e n id size f in
-      let sized = word-put 2 (omega arith) ∙ id-between e n id size in
-      simp (last, between, marked, sized, size-between e id size f small-size, six-more, eq-eqb (mark e) (mark e) refl, eq-eqb size size refl)
-
-  inserted-carries : carries e (inserted e o n id) ≡ true
-  inserted-carries =
-      by-cases (inFront e)
-      (λ f. carries-front e (inserted e o n id) f ∙ eq-eqb _ (mark e) (rw (← front-before f .place) (announced-there f)))
-      (λ f. carries-back e (inserted e o n id) f ∙ rw (back-length f) (back-trails f))
-
-  -- it carries the number and the id
-  pub inserted-sequence : sequence e (inserted e o n id) ≡ numbered n (idRead e id)
-  unfolding sequence
-  inserted-sequence =
-      let number = word-put (numberAt e) (omega (arith, number-within e)) ∙ number-there e n id size in
-      let between = word-put 2 (omega arith) ∙ id-between e n id size in
-      simp (inserted-carries, inserted-standing, number, between, id-read e id size (ins .small))
-
-  -- put in, then taken off, gives the first frame
-  pub inserted-removed : removed e (inserted e o n id) ≡ o
-  unfolding removed inserted at
-  inserted-removed = rw inserted-standing (put-off o (six e n id (payloadLength o + 6)) at (six-long e n id (payloadLength o + 6)) within)
-
-  -- and removal takes it
-  pub inserted-removable : (room′ : ℕ) → length o ≤ room′ → verdict (removeChecks e (inserted e o n id) room′) ≡ good
-  unfolding removeChecks verdict _then_
-  inserted-removable room′ l =
-      let g = frame-good (inserted e o n id) (inserted-reads (good-frame o (ins .reads))) in
-      simp (verdict-append, g .0, inserted-carries, le-ltb room′ (length (inserted e o n id) - 6) (omega (arith, splice .long)))
 
 -- taken off
 module _ (e : Encoding) (o : List ℕ) (room : ℕ) (accepted : verdict (removeChecks e o room) ≡ good) where
@@ -260,10 +90,11 @@ module _ (e : Encoding) (o : List ℕ) (room : ℕ) (accepted : verdict (removeC
         (omega (arith, most o (rem .reads), unsplice .long))
         (λ z. behind .1 (type-moved ∙ z))
 
-    front-reads-off : {h : Header} → Frame h ≡ reading o → Frame (retagged h 0 (h .payload - 6)) ≡ reading (removed e o)
+    front-reads-off : {h : Header} → Frame h ≡ reading o → Frame (retagged h 0 0 (h .payload - 6)) ≡ reading (removed e o)
     unfolding sequenced
     front-reads-off r =
-        reads-off front-unsplice front-below (good-before o (rem .reads)) there (λ z. behind .1 (type-moved ∙ z)) (rw type-moved at (behind .2))
+        reads-off front-unsplice front-below (good-before o (rem .reads)) there (λ z. behind .1 (type-moved ∙ z))
+        (rw type-moved at (behind .2))
         (omega (arith, behind .0))
         r
 
@@ -363,6 +194,24 @@ module _ (e : Encoding) (o : List ℕ) (room : ℕ) (accepted : verdict (removeC
     pub id-small : sequence e o .path ≤ 15
     unfolding sequence
     id-small = rw (rem .carried) (id-below e (be16 o (standing e o + 2)) (word-below o octets (standing e o + 2)))
+
+    -- the size of a trailer that was there is the one that is written
+    pub as-written : inFront e ≡ false → AsWritten e o
+    unfolding AsWritten sequence payloadLength
+    as-written f =
+        let r = good-frame o (rem .reads) in
+        let was = starts o r in
+        let is = starts (removed e o) (r ∙ sym (back-reads-off f)) in
+        let between : standing e o + 2 ≡ length o - 4 = omega (arith, standing-back f, six-within) in
+        let sized = trailed e o (rem .reads) (rem .carried) f .2 in
+        rw (rem .carried)
+        (written-again
+        e
+        (be16 o (standing e o + 2))
+        (length (removed e o) - payloadPlace (removed e o) + 6)
+        f
+        (word-below o octets (standing e o + 2))
+        (rw between (omega (arith, sized, was, is, unsplice .long, payload-before f))))
 
     own-six : AsWritten e o
         → take 6 (drop (standing e o) o) ≡ six e (sequence e o .number) (sequence e o .path) (payloadLength (removed e o) + 6)
