@@ -1,8 +1,12 @@
 -- From a promise of the room to the promise of its call for C: the answer as a number, and what is lent afterwards. Assumes nothing.
-use Prim.Native.Nat.{ℕ}
+use Prim.Native.Nat.{ℕ, _≤_, _<_}
+use native.Mathlib.Omega.{arith}
 use mathlib.Core.Path.{_≡_, sym, _∙_}
-use mathlib.Core.Bool.{Bool, cond}
+use mathlib.Core.Bool.{Bool}
 use mathlib.Core.List.{List, []}
+use lib.ListN.{length}
+use lib.Seq.{length-take-le}
+use borrow.Author.Tests.{le-leb, lt-leb}
 use Rattle.octets.specs.Copy.{fits, outputBy, Puts}
 use Rattle.octets.specs.Checks.{verdict, refusal}
 use Rattle.octets.proofs.Order.{first-check}
@@ -15,12 +19,24 @@ use Rattle.encoding.specs.declared.Packet.the-variants.{Frame, Refused}
 use Rattle.encoding.specs.Encodings.{sequence}
 use Rattle.encoding.specs.Reader.{readingIn}
 use Rattle.encoding.proofs.Answered.{header-of, refusal-of}
-use Rattle.frame_c.specs.Frames.{written, recordChecks, Fills, ReadsTo}
+use Rattle.frame_c.specs.Frames.{headerWords, written, recordChecks, Fills, ReadsTo}
 
--- words put into a record, or no room for them
-pub room-told : {h : Header} {s : Sequence} {n : ℕ} {filled out later : List ℕ} {fitted : Bool} {r : ℕ} → Puts filled out fitted later
-    → filled ≡ written n h s → r ≡ cond fitted 0 8 → Fills h s n out r later
-room-told p e f = record { answer = f ∙ rw (p .answer, e); words = p .buffer ∙ rw e }
+-- words of a header that a record has room for
+module _ (h : Header) (s : Sequence) (n : ℕ) (out : List ℕ) (few : n ≤ 9) where
+  long : length (written n h s) ≡ n
+  unfolding written headerWords
+  long = length-take-le n (headerWords h s) few
+
+  pub room-told : n ≤ length out → {filled later : List ℕ} {fitted : Bool} → Puts filled out fitted later → filled ≡ written n h s
+      → Fills h s n out 0 later
+  room-told room p e =
+      let fit = le-leb (length (written n h s)) (length out) (omega (arith, long)) in
+      record { answer = simp fit; words = p .buffer ∙ rw e }
+
+  -- and that it has none for
+  pub no-room-told : length out < n → Fills h s n out 8 out
+  no-room-told none =
+      let fit = lt-leb (length (written n h s)) (length out) (omega (arith, long)) in record { answer = simp fit; words = simp fit }
 
 module _ (e : Encoding) (n : ℕ) (o out : List ℕ) where
   -- a frame that reading accepts

@@ -47,6 +47,9 @@ fn fill(h: Header, s: Sequence, n: usize, header: &mut [u64]) -> u8
     requires { ⌜ n ≤ 9 ⌝ }
     ensures { λ r. ⌜ Fills h s n (now (header .entry)) r (now (header .exit)) ⌝ }
 {
+    if header.len() < n {
+        return 8;
+    }
     let filled = [
         h.destination,
         h.source,
@@ -58,11 +61,8 @@ fn fill(h: Header, s: Sequence, n: usize, header: &mut [u64]) -> u8
         h.payload as u64,
         s.path as u64,
     ];
-    if words::put(&filled[..n], header) {
-        0
-    } else {
-        8
-    }
+    words::put(&filled[..n], header);
+    0
 }
 
 // How many octets the payload has: the last ones of the frame, a trailer among them. 0 for a frame that `ahz_read` refuses.

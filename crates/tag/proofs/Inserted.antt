@@ -24,7 +24,7 @@ use Rattle.encoding.specs.Encodings.{numbered, sequence}
 use Rattle.encoding.proofs.Carried.{mark-announces, carries-front, carries-back, starts}
 use Rattle.encoding.proofs.Carried.{number-within}
 use Rattle.encoding.proofs.ThreeWords.{size-between, six-long, mark-first, mark-last, id-between, number-there}
-use Rattle.tag.specs.Insertion.{inserted, insertChecks}
+use Rattle.tag.specs.Insertion.{sizeOf, inserted, insertChecks}
 use Rattle.tag.specs.Removal.{removed, removeChecks}
 use Rattle.tag.specs.RoundTrip.{retagged, withTag, idRead}
 use Rattle.tag.proofs.Splice.{Spliced, word-in, inserting, put-off}
@@ -69,7 +69,7 @@ module _ (e : Encoding) (o : List ℕ) (n id room : ℕ) (accepted : verdict (in
   at = place e (tagPlace o) (length o)
 
   size : ℕ
-  size = payloadLength o + 6
+  size = sizeOf o
 
   -- a tag: there is none yet, and its place lies within the frame
   module _ (f : inFront e ≡ true) where
@@ -97,12 +97,12 @@ module _ (e : Encoding) (o : List ℕ) (n id room : ℕ) (accepted : verdict (in
 
   splice : Spliced o (inserted e o n id) at
   unfolding inserted at
-  splice = inserting o (six e n id (payloadLength o + 6)) at (six-long e n id (payloadLength o + 6)) within
+  splice = inserting o (six e n id (sizeOf o)) at (six-long e n id (sizeOf o)) within
 
   -- the words that were put in
   word-put : (k : ℕ) → k + 1 < 6 → be16 (inserted e o n id) (at + k) ≡ be16 (six e n id size) k
   unfolding inserted at size
-  word-put = word-in o (six e n id (payloadLength o + 6)) at (six-long e n id (payloadLength o + 6)) within
+  word-put = word-in o (six e n id (sizeOf o)) at (six-long e n id (sizeOf o)) within
 
   -- a tag: what stands at its place now
   module _ (f : inFront e ≡ true) where
@@ -196,7 +196,7 @@ module _ (e : Encoding) (o : List ℕ) (n id room : ℕ) (accepted : verdict (in
   -- put in, then taken off, gives the first frame
   pub inserted-removed : removed e (inserted e o n id) ≡ o
   unfolding removed inserted at
-  inserted-removed = rw inserted-standing (put-off o (six e n id (payloadLength o + 6)) at (six-long e n id (payloadLength o + 6)) within)
+  inserted-removed = rw inserted-standing (put-off o (six e n id (sizeOf o)) at (six-long e n id (sizeOf o)) within)
 
   -- and removal takes it
   pub inserted-removable : (room′ : ℕ) → length o ≤ room′ → verdict (removeChecks e (inserted e o n id) room′) ≡ good

@@ -23,7 +23,7 @@ use Rattle.encoding.specs.Encodings.{unnumbered, sequence}
 use Rattle.encoding.proofs.Carried.{mark-announces, carries-front, carried-sequenced, starts}
 use Rattle.encoding.proofs.Carried.{trailed, standing-within}
 use Rattle.encoding.proofs.ThreeWords.{written-again, six-long, id-between}
-use Rattle.tag.specs.Insertion.{inserted, insertChecks}
+use Rattle.tag.specs.Insertion.{sizeOf, inserted, insertChecks}
 use Rattle.tag.specs.Removal.{removed, removeChecks}
 use Rattle.tag.specs.RoundTrip.{AsWritten, retagged, withoutTag}
 use Rattle.tag.proofs.Splice.{Spliced, length-inserted, word-in, removing, off-put, with-own-six, six-of-words}
@@ -159,14 +159,14 @@ module _ (e : Encoding) (o : List ℕ) (room : ℕ) (accepted : verdict (removeC
 
   put-back : (n id : ℕ)
       → inserted e (removed e o) n id
-      ≡ take (standing e o) o ++ (six e n id (payloadLength (removed e o) + 6) ++ drop (standing e o + 6) o)
+      ≡ take (standing e o) o ++ (six e n id (sizeOf (removed e o)) ++ drop (standing e o + 6) o)
   unfolding inserted removed
-  put-back n id = rw same-place (off-put o (standing e o) six-within (six e n id (payloadLength (removed e o) + 6)))
+  put-back n id = rw same-place (off-put o (standing e o) six-within (six e n id (sizeOf (removed e o))))
 
   pub removed-inserted-length : (n id : ℕ) → length (inserted e (removed e o) n id) ≡ length o
   unfolding inserted
   removed-inserted-length n id =
-      let size = payloadLength (removed e o) + 6 in
+      let size = sizeOf (removed e o) in
       rw same-place
       (length-inserted (removed e o) (six e n id size) (standing e o) (six-long e n id size) (unsplice .within) ∙ sym (unsplice .long))
 
@@ -214,7 +214,7 @@ module _ (e : Encoding) (o : List ℕ) (room : ℕ) (accepted : verdict (removeC
         (rw between (omega (arith, sized, was, is, unsplice .long, payload-before f))))
 
     own-six : AsWritten e o
-        → take 6 (drop (standing e o) o) ≡ six e (sequence e o .number) (sequence e o .path) (payloadLength (removed e o) + 6)
+        → take 6 (drop (standing e o) o) ≡ six e (sequence e o .number) (sequence e o .path) (sizeOf (removed e o))
     unfolding six words AsWritten
     own-six w =
         six-of-words o (standing e o) six-within octets
@@ -224,7 +224,7 @@ module _ (e : Encoding) (o : List ℕ) (room : ℕ) (accepted : verdict (removeC
         (again ≡ o → AsWritten e o) × (AsWritten e o → again ≡ o)
     unfolding AsWritten inserted
     removed-inserted =
-        let size = payloadLength (removed e o) + 6 in
+        let size = sizeOf (removed e o) in
         let n = sequence e o .number in
         let id = sequence e o .path in (
           λ e′. sym (ap (λ (l : List ℕ). be16 l (standing e o + 2)) e′)

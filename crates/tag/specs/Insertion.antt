@@ -16,10 +16,14 @@ use Rattle.tag.specs.Output.{Writes}
 unfoldable pub insertedAt : List ℕ → (at : ℕ) → List ℕ → List ℕ
 insertedAt o at six = take at o ++ (six ++ drop at o)
 
+-- "Size counts the octets after the last type, the six added ones included": of the frame before them
+abbrev pub sizeOf : List ℕ → ℕ
+sizeOf o = payloadLength o + tagLength
+
 -- "Insertion puts the R-TAG after the C-TAG if there is one, else after the source address"; the HSR tag "at the R-TAG's place"; the PRP
--- trailer "at the end". "Size counts the octets after the last type, the six added ones included"
+-- trailer "at the end"
 unfoldable pub inserted : Encoding → List ℕ → (number id : ℕ) → List ℕ
-inserted e o number id = insertedAt o (place e (tagPlace o) (length o)) (six e number id (payloadLength o + tagLength))
+inserted e o number id = insertedAt o (place e (tagPlace o) (length o)) (six e number id (sizeOf o))
 
 -- "1 to 5 as in reading, then 6 or 9, then 7, then 8": "insertion: R-TAG there"; "result over 1,522"; "output shorter than result". "A path
 -- or LAN id over 15 is refusal 37, after 5 and before 6. PRP insertion never gives 6"; of tags "3, 4 and 6 cover both"

@@ -8,7 +8,7 @@ use mathlib.Core.List.{List}
 use lib.ListN.{length, getD, take}
 use Rattle.octets.specs.Number.{be16}
 use Rattle.frame.specs.declared.Header.{Header}
-use Rattle.frame.specs.Layout.{tagLength, payloadLength}
+use Rattle.frame.specs.Layout.{tagLength}
 use Rattle.encoding.specs.declared.Encoding.{Encoding}
 use Rattle.encoding.specs.declared.Encoding.the-variants.{RTag, Hsr, Prp}
 use Rattle.encoding.specs.declared.Sequence.{Sequence}
@@ -18,7 +18,7 @@ use Rattle.encoding.specs.Encodings.{inFront, mark, idWord, standing, numbered,
 use Rattle.encoding.specs.Reader.{ReadsIn}
 use Rattle.tag.specs.declared.Written.{Written}
 use Rattle.tag.specs.declared.Written.the-variants.{Length}
-use Rattle.tag.specs.Insertion.{Inserts}
+use Rattle.tag.specs.Insertion.{sizeOf, Inserts}
 use Rattle.tag.specs.Removal.{Removes, removed}
 
 -- "Put in, then taken off, gives the first frame"
@@ -31,7 +31,7 @@ InsertThenRemove =
 -- the word between number and mark is what insertion writes: the reserved octets of an R-TAG are zero, and the size of an HSR tag is right
 unfoldable pub AsWritten : Encoding → List ℕ → Type 0
 AsWritten e o =
-    be16 o (standing e o + 2) ≡ idWord e (sequence e o .path) (payloadLength (removed e o) + tagLength)
+    be16 o (standing e o + 2) ≡ idWord e (sequence e o .path) (sizeOf (removed e o))
 
 -- "Remove then insert of the same number gives it only where the reserved octets were zero", and there it does; so with the same number and
 -- id in each encoding. A trailer is always as it is written, since it is none with another size
@@ -73,8 +73,8 @@ idRead RTag id = 0
 idRead Hsr id = id
 idRead Prp id = id
 
--- a frame with a tag or a trailer put in reads as the first one did but for its number and id, and where a tag is put in for that and where
--- the payload starts behind it
+-- a frame with a tag or a trailer put in reads as the first one did but for its number and id; a tag that was put in is told of, and the
+-- payload starts behind it
 abbrev pub InsertThenRead : Type 0
 InsertThenRead =
     (e : Encoding) (o : List ℕ) (n id : ℕ) (out : List ℕ) (k : ℕ) (later : List ℕ) (h : Header) (s : Sequence) (r : Packet)

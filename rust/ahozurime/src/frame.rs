@@ -101,9 +101,9 @@ fn six(address: u64) -> [u8; 6] {
     six
 }
 
-/// The header of those words, where the answer is that they were read.
+/// The header of those words and that id, where the answer is that they were read.
 #[inline]
-fn header(answer: u8, words: &[u64; sys::AHZ_H_ID_WORDS]) -> Result<Header, Refusal> {
+fn header(answer: u8, words: &[u64; sys::AHZ_H_WORDS], path_id: u64) -> Result<Header, Refusal> {
     match answer {
         sys::AHZ_DONE => {}
         refusal => return Err(Refusal::from_number(refusal)),
@@ -116,7 +116,7 @@ fn header(answer: u8, words: &[u64; sys::AHZ_H_ID_WORDS]) -> Result<Header, Refu
         tagged: words[sys::AHZ_H_TAGGED] == 1,
         vlan: words[sys::AHZ_H_VLAN] as u16,
         number: (words[sys::AHZ_H_NUMBERED] == 1).then_some(words[sys::AHZ_H_NUMBER] as u16),
-        path_id: words[sys::AHZ_H_PATH_ID] as u8,
+        path_id: path_id as u8,
         ethertype: words[sys::AHZ_H_TYPE] as u16,
         payload_at: words[sys::AHZ_H_PAYLOAD] as usize,
     })
@@ -139,10 +139,9 @@ fn written(answer: u8, length: usize) -> Result<usize, Refusal> {
 /// [`Refusal::TAG_CUT`], 5 [`Refusal::VLAN`], 4 [`Refusal::TAG_TWICE`]; at an R-TAG or an HSR tag 3, 4.
 #[inline]
 pub fn read(frame: &[u8]) -> Result<Header, Refusal> {
-    // The last word, the path id, is not written and stays 0.
-    let mut words = [0; sys::AHZ_H_ID_WORDS];
+    let mut words = [0; sys::AHZ_H_WORDS];
     let answer = raw::read(frame, &mut words);
-    header(answer, &words)
+    header(answer, &words, 0)
 }
 
 /// Reads a frame of an HSR stream.
@@ -154,7 +153,8 @@ pub fn read(frame: &[u8]) -> Result<Header, Refusal> {
 pub fn read_hsr(frame: &[u8]) -> Result<Header, Refusal> {
     let mut words = [0; sys::AHZ_H_ID_WORDS];
     let answer = raw::read_hsr(frame, &mut words);
-    header(answer, &words)
+    let [header_words @ .., path_id] = &words;
+    header(answer, header_words, *path_id)
 }
 
 /// Reads a frame of a PRP stream. Where it has a number, its last [`PRP_OCTETS`] octets are the trailer,
@@ -167,7 +167,8 @@ pub fn read_hsr(frame: &[u8]) -> Result<Header, Refusal> {
 pub fn read_prp(frame: &[u8]) -> Result<Header, Refusal> {
     let mut words = [0; sys::AHZ_H_ID_WORDS];
     let answer = raw::read_prp(frame, &mut words);
-    header(answer, &words)
+    let [header_words @ .., path_id] = &words;
+    header(answer, header_words, *path_id)
 }
 
 /// The payload as a part of the frame: its last octets, a trailer among them. It is empty where [`read`]

@@ -16,7 +16,7 @@ pub fn version() -> u32 {
 }
 
 #[inline]
-pub fn read(frame: &[u8], header: &mut [u64; sys::AHZ_H_ID_WORDS]) -> u8 {
+pub fn read(frame: &[u8], header: &mut [u64; sys::AHZ_H_WORDS]) -> u8 {
     // Safety: two slices, each with its length; the second is borrowed alone.
     unsafe { sys::ahz_read(frame.as_ptr(), frame.len(), header.as_mut_ptr(), header.len()) }
 }
