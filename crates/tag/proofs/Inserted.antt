@@ -1,5 +1,5 @@
--- A tag or a trailer put in, as octets: what the frame reads as then, and that taken off again it gives the first frame. Trips says it of the
--- calls. Assumes nothing.
+-- A tag or a trailer put in, as octets: what the frame reads as then, and that taken off again it gives the first frame. Trips says it of
+-- the calls. Assumes nothing.
 use Prim.Native.Nat.{ℕ, _+_, _-_, _≤_, _<_}
 use native.Mathlib.Omega.{arith}
 use mathlib.Core.Path.{_≡_, refl, sym, _∙_}

@@ -1,5 +1,5 @@
--- A tag or a trailer taken off, as octets: what the frame reads as then, and that put in again with the same number and id it gives the first
--- frame exactly where the word between was as insertion writes it. Trips says it of the calls. Assumes nothing.
+-- A tag or a trailer taken off, as octets: what the frame reads as then, and that put in again with the same number and id it gives the
+-- first frame exactly where the word between was as insertion writes it. Trips says it of the calls. Assumes nothing.
 use Prim.Native.Nat.{ℕ, _+_, _-_, _≤_, _<_}
 use native.Mathlib.Omega.{arith}
 use mathlib.Core.Path.{_≡_, refl, sym, _∙_, ap}

@@ -45,4 +45,16 @@ returns c =
 
 pub write-without-spec : {M : Type 1} → statement M
 write-without-spec =
-    tie.close (search (tie.spec, slice-aggregate-copy, add-behind, part-copy-start, part-copy-start-2, copy-requires, copy-requires-2, same-length, returns, needs))
+    tie.close
+    (search (
+      tie.spec,
+      slice-aggregate-copy,
+      add-behind,
+      part-copy-start,
+      part-copy-start-2,
+      copy-requires,
+      copy-requires-2,
+      same-length,
+      returns,
+      needs,
+    ))
