@@ -99,9 +99,14 @@
  *     archive of version 4 as well: ahz_version_fits tells.
  *   Sources: one that has no frames of those two kinds needs no change. ahz_header_t has AHZ_H_ID_WORDS words, and had AHZ_H_WORDS: the
  *     path id is one more. In C++ an older object whose ahz_header_read the linker joins with the new one lends one word too few, which is
- *     then written past. ahz_read writes AHZ_H_WORDS as before; with so few ahz_read_hsr and ahz_read_prp refuse by 8. */
+ *     then written past. ahz_read writes AHZ_H_WORDS as before; with so few ahz_read_hsr and ahz_read_prp refuse by 8.
+ *
+ * From 5.0 to 5.1 stream tables got kind 4, for IP streams: AHZ_KIND_IP, AHZ_TYPE_IP and the constants of its fields. Kind 4 was refused
+ *   by 10; a table without it is what it was. Refusal 12 is for the new fields too, and its sentence says so. The longest table is one of
+ *   kind 4: AHZ_TABLE_LONGEST is 6,656, and was 3,072. A program for 5.0 needs no change; one that puts entries of kind 4 into its table
+ *   and walks it has to go by the length of each kind. */
 #define AHZ_VERSION_MAJOR 5
-#define AHZ_VERSION_MINOR 0
+#define AHZ_VERSION_MINOR 1
 #define AHZ_VERSION (AHZ_VERSION_MAJOR * 65536u + AHZ_VERSION_MINOR)
 
 /* Octets of stack that are enough for ahz_tape_v3; for ahz_crc32 and the three calls with fcs in their name; and for every other call. */
@@ -143,7 +148,7 @@ enum {
     AHZ_R_NO_TAG = 9,          /* removal: there is no number in the stream's encoding */
     AHZ_R_ENTRY_KIND = 10,     /* table: an entry of no known kind */
     AHZ_R_ENTRY_CUT = 11,      /* table: the octets end inside an entry */
-    AHZ_R_ENTRY_RANGE = 12,    /* table: an entry's choice or VLAN is out of range */
+    AHZ_R_ENTRY_RANGE = 12,    /* table: an entry's choice or VLAN is out of range, or in kind 4 its DSCP or next protocol */
     AHZ_R_ENTRY_257 = 13,      /* table: a 257th entry */
     AHZ_R_STATE = 14,          /* the words hold no state of this format, or one that is not sound */
     AHZ_R_RULE = 15,           /* setup: rule not 0 or 1 */
@@ -217,6 +222,7 @@ enum {
     AHZ_TYPE_CTAG = 0x8100,
     AHZ_TYPE_RTAG = 0xF1C1,
     AHZ_TYPE_HSR = 0x892F,
+    AHZ_TYPE_IP = 0x0800,      /* no tag: the last type of a frame that an entry of kind 4 can match */
     AHZ_SUFFIX_PRP = 0x88FB,
     AHZ_VLAN_LAST = 4094,      /* 4,095 is refused, in a frame and in a table */
     AHZ_PATH_ID_LAST = 15      /* of a path id and of a LAN id */
@@ -312,24 +318,46 @@ AHZ_USE_ANSWER size_t ahz_without_fcs(const uint8_t *frame, size_t frame_octets)
  * Refusals, in this order: 1 the frame is under 14 octets; 2 over 1,522; 8 out is shorter than the result. */
 AHZ_USE_ANSWER uint8_t ahz_append_fcs(const uint8_t *frame, size_t frame_octets, uint8_t *out, size_t out_octets, size_t *length);
 
-/* ---- Stream tables: entries of 12 octets, kind 1 or 2, address 6, choice 1, VLAN 2, handle 2 ---- */
+/* ---- Stream tables: entries of 12 octets, and of 26 for IP streams ---- */
 
-/* An entry matches a frame where its address is the frame's destination (kind 1) or source (kind 2), its choice allows the frame, and its
- * VLAN is 0 or the frame's. A frame without a C-TAG has VLAN id 0. The handle is any number of 16 bits. */
+/* An entry is its kind, an address of 6, a choice of 1, a VLAN of 2, in kind 4 what it asks of an IP header, and a handle of 2, any number.
+ * What kind 4 asks are 14 octets: source IP 4, destination IP 4, DSCP 1, next protocol 1, source port 2, destination port 2. A table may
+ * have entries of all kinds, in any order.
+ *
+ * An entry matches a frame where its address is the frame's destination (kinds 1 and 4) or source (kind 2), its choice allows the frame,
+ * and its VLAN is 0 or the frame's. A frame without a C-TAG has VLAN id 0. One of kind 4 matches where beside this
+ *   the last type is 0800, and the payload begins with an IPv4 header: version 4, a header length of at least 5 words, all of them there;
+ *   the source IP is 0 or the header's, the destination IP is 0 or the header's, and the DSCP is 255 or the header's;
+ *   the next protocol is none, or it is the header's and each port is 0 or the packet's, which stands behind the header and its options.
+ *     Where a port is not 0, the four octets of both must be there, and the packet must not be a later fragment, which has none.
+ * With none the ports are not compared, whatever they are. A frame of which this does not hold, be its payload cut or no IP at all, is no
+ * match, and never a refusal. The header's checksum and total length are not read: the payload goes to the end of the frame, padding and a
+ * PRP trailer with it, and these may stand for what a cut payload lacks. */
 enum {
     AHZ_KIND_DESTINATION = 1,  /* the standard's Null stream identification */
     AHZ_KIND_SOURCE = 2,
+    AHZ_KIND_IP = 4,
     AHZ_CHOICE_TAGGED = 1,     /* a frame with a C-TAG */
     AHZ_CHOICE_PRIORITY = 2,   /* a frame without one, or with VLAN id 0 */
     AHZ_CHOICE_ALL = 3,        /* any frame */
     AHZ_VLAN_ANY = 0,
-    AHZ_ENTRY_OCTETS = 12,
+    AHZ_IP_ANY = 0,            /* for the source IP and for the destination IP */
+    AHZ_DSCP_LAST = 63,
+    AHZ_DSCP_ANY = 255,
+    AHZ_PROTOCOL_NONE = 1,     /* any protocol, and any ports */
+    AHZ_PROTOCOL_UDP = 2,      /* 17 in the header */
+    AHZ_PROTOCOL_TCP = 3,      /* 6 */
+    AHZ_PROTOCOL_SCTP = 4,     /* 132 */
+    AHZ_PORT_ANY = 0,          /* for either port */
+    AHZ_ENTRY_OCTETS = 12,     /* of kinds 1 and 2 */
+    AHZ_IP_ENTRY_OCTETS = 26,  /* of kind 4 */
     AHZ_TABLE_ENTRIES = 256,   /* at most */
-    AHZ_TABLE_LONGEST = 3072   /* octets of so many entries */
+    AHZ_TABLE_LONGEST = 6656   /* octets of so many entries of kind 4 */
 };
 
 /* Checks a table. An empty one is good (0).
- * Refusals, entry by entry, each in this order: 13 it is the 257th; 10 its kind; 11 it is cut; 12 its choice or VLAN. */
+ * Refusals, entry by entry, each in this order: 13 it is the 257th; 10 its kind; 11 it is cut; 12 its choice or VLAN, or in kind 4 a DSCP
+ * from 64 to 254 or a next protocol that is not 1 to 4. */
 AHZ_USE_ANSWER uint8_t ahz_check_table(const uint8_t *table, size_t table_octets);
 
 /* Looks the frame's stream up. AHZ_STREAM: the first match's handle is in handle. AHZ_NO_STREAM: none matches, handle stays. The number
@@ -651,7 +679,7 @@ AHZ_USE_ANSWER AHZ_INLINE const char *ahz_refusal_sentence(uint8_t refusal) {
     case AHZ_R_NO_TAG: return "removal from a frame without a number in the stream's encoding";
     case AHZ_R_ENTRY_KIND: return "table entry of no known kind";
     case AHZ_R_ENTRY_CUT: return "octets end inside a table entry";
-    case AHZ_R_ENTRY_RANGE: return "choice or VLAN of a table entry out of range";
+    case AHZ_R_ENTRY_RANGE: return "choice, VLAN, DSCP or next protocol of a table entry out of range";
     case AHZ_R_ENTRY_257: return "257th table entry";
     case AHZ_R_STATE: return "no state of this format, or one that is not sound";
     case AHZ_R_RULE: return "rule not 0 or 1";

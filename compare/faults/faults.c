@@ -649,29 +649,232 @@ uint8_t ahz_append_fcs(const uint8_t *frame, size_t frame_octets, uint8_t *out, 
 
 /* ---- Stream tables ---- */
 
+/* As much of a table as decides: the longest one, and the first octet of a 257th entry. */
+enum { DECIDES = AHZ_TABLE_LONGEST + 1 };
+
+static size_t entry_octets(uint8_t kind)
+{
+    return kind == AHZ_KIND_IP ? AHZ_IP_ENTRY_OCTETS : AHZ_ENTRY_OCTETS;
+}
+
+/* Where the 257th entry begins, or before it the first that is cut or of no known kind. */
+static size_t walked(const uint8_t *table, size_t table_octets)
+{
+    size_t at = 0;
+
+    for (int entry = 0; entry < AHZ_TABLE_ENTRIES && at < table_octets; entry++) {
+        if ((table[at] != AHZ_KIND_DESTINATION && table[at] != AHZ_KIND_SOURCE && table[at] != AHZ_KIND_IP) ||
+            table_octets - at < entry_octets(table[at]))
+            break;
+        at += entry_octets(table[at]);
+    }
+    return at;
+}
+
+/* A table that is read in a wrong way, as the one that is then checked or looked up in: as many octets of it as decide, or 0 where the two
+ * are one. */
+static size_t misread_table(const uint8_t *table, size_t table_octets, uint8_t *other)
+{
+    const size_t octets = table_octets < DECIDES ? table_octets : DECIDES;
+
+    memcpy(other, table, octets);
+    for (size_t at = 0; at < octets; at += entry_octets(other[at])) {
+        uint8_t *entry = other + at;
+
+        if ((fault("kind-3-taken") && entry[0] == 3) || (fault("kind-4-12-octets") && entry[0] == AHZ_KIND_IP))
+            entry[0] = AHZ_KIND_DESTINATION;
+        if (entry[0] != AHZ_KIND_IP || octets - at < AHZ_IP_ENTRY_OCTETS)
+            continue;
+        if (fault("dscp-64-taken") && entry[18] == 64)
+            entry[18] = 63;
+        if (fault("dscp-63-refused") && entry[18] == 63)
+            entry[18] = 64;
+        if (fault("dscp-255-refused") && entry[18] == 255)
+            entry[18] = 254;
+        if (fault("next-0-taken") && entry[19] == 0)
+            entry[19] = AHZ_PROTOCOL_NONE;
+        if (fault("next-5-taken") && entry[19] == 5)
+            entry[19] = AHZ_PROTOCOL_SCTP;
+    }
+    return memcmp(other, table, octets) == 0 ? 0 : octets;
+}
+
 uint8_t ahz_check_table(const uint8_t *table, size_t table_octets)
 {
-    uint8_t answer = real_ahz_check_table(table, table_octets);
-    const size_t most = 256 * 12, over = table_octets % 12;
+    uint8_t other[DECIDES], answer;
+    const size_t octets = misread_table(table, table_octets, other), last = walked(table, table_octets), over = table_octets - last;
 
-    if (fault("range-before-cut") && answer == AHZ_R_ENTRY_CUT && over > 7 && (uint8_t)(table[table_octets - over + 7] - 1) > 2)
+    if (octets > 0)
+        return real_ahz_check_table(other, octets);
+    answer = real_ahz_check_table(table, table_octets);
+    if (fault("3072-at-most") && answer == AHZ_DONE && table_octets > 3072)
+        return AHZ_R_ENTRY_257;
+    if (fault("range-before-cut") && answer == AHZ_R_ENTRY_CUT && over > 7 && (uint8_t)(table[last + 7] - 1) > 2)
+        return AHZ_R_ENTRY_RANGE;
+    if (fault("dscp-before-cut") && answer == AHZ_R_ENTRY_CUT && over > 18 && table[last + 18] > 63 && table[last + 18] < 255)
         return AHZ_R_ENTRY_RANGE;
     if (fault("table-changed") && answer == AHZ_R_ENTRY_RANGE)
         ((uint8_t *)table)[table_octets - 1] ^= 1;
     if (answer != AHZ_R_ENTRY_257)
         return answer;
-    if (fault("entry-257-unknown") && table[most] != 1 && table[most] != 2)
+    if (fault("entry-257-unknown") && table[last] != AHZ_KIND_DESTINATION && table[last] != AHZ_KIND_SOURCE && table[last] != AHZ_KIND_IP)
         return AHZ_R_ENTRY_KIND;
-    if (fault("entry-257-cut") && table_octets < most + 12)
+    if (fault("entry-257-cut") && over < entry_octets(table[last]))
         return AHZ_R_ENTRY_CUT;
     return answer;
 }
 
+static void exchange(uint8_t *one, uint8_t *other, size_t octets)
+{
+    for (size_t at = 0; at < octets; at++) {
+        const uint8_t kept = one[at];
+
+        one[at] = other[at];
+        other[at] = kept;
+    }
+}
+
+static int is_zero(const uint8_t *octets, size_t count)
+{
+    for (size_t at = 0; at < count; at++)
+        if (octets[at] != 0)
+            return 0;
+    return 1;
+}
+
+/* Whether a header's sum is that of a header with a good checksum. */
+static int summed(const uint8_t *ip, size_t octets)
+{
+    uint32_t sum = 0;
+
+    for (size_t at = 0; at + 2 <= octets; at += 2)
+        sum += two(ip + at);
+    return octets > 0 && sum % 65535 == 0;
+}
+
+/* What an entry of kind 4 asks of a header that is whole and not bad, and the header, as a wrong layer takes them: 0 where they do not
+ * match, and 1 where the proved call has to say. */
+static int asks_header(uint8_t *entry, uint8_t *ip, size_t payload)
+{
+    const size_t header = (ip[0] & 15) * 4u;
+    const int has_ports = payload >= header + 4;
+
+    if (fault("ip-dscp-255-asked") && entry[18] == AHZ_DSCP_ANY)
+        return 0;
+    if (fault("ip-tos-compared") && entry[18] != AHZ_DSCP_ANY)
+        entry[18] = (uint8_t)(ip[1] >> 2 ^ (entry[18] != ip[1]));
+    if (fault("ip-ports-of-none") && entry[19] == AHZ_PROTOCOL_NONE) {
+        entry[19] = AHZ_PROTOCOL_UDP;
+        ip[9] = 17;
+    }
+    if (fault("ip-tcp-for-udp") && entry[19] == AHZ_PROTOCOL_UDP)
+        entry[19] = AHZ_PROTOCOL_TCP;
+    if (fault("ip-sctp-as-hex") && entry[19] == AHZ_PROTOCOL_SCTP) /* 132 hex, cut to an octet */
+        ip[9] = ip[9] == 0x32 ? 132 : 0;
+    if (fault("ip-zero-address") && ((is_zero(entry + 10, 4) && !is_zero(ip + 12, 4)) || (is_zero(entry + 14, 4) && !is_zero(ip + 16, 4))))
+        return 0;
+    if (fault("ip-zero-port") && entry[19] != AHZ_PROTOCOL_NONE && has_ports &&
+        ((is_zero(entry + 20, 2) && !is_zero(ip + header, 2)) || (is_zero(entry + 22, 2) && !is_zero(ip + header + 2, 2))))
+        return 0;
+    if (fault("ip-later-ports"))
+        put_two(ip + 6, two(ip + 6) & 0xE000);
+    if (fault("ip-more-is-later") && (ip[6] & 0x20))
+        ip[7] |= 1;
+    if (fault("ip-cut-port-fits") && !has_ports)
+        memset(entry + 20, 0, 4);
+    if (fault("ip-checksum-read") && !summed(ip, header))
+        return 0;
+    if (fault("ip-length-read") && two(ip + 2) > payload)
+        return 0;
+    if (fault("ip-options-kept"))
+        ip[0] = 0x45;
+    return 1;
+}
+
+/* Faults named ip-.. are in how an entry of kind 4 is held against a good frame. Both are changed so that the proved call says of them what
+ * the wrong one would of those that were lent. */
+static uint8_t asks(const uint8_t *listed, const uint8_t *lent, size_t lent_octets, uint16_t *handle)
+{
+    const size_t tag = tag_place(lent, lent_octets), type = has_tag(lent, lent_octets) ? tag + 6 : tag;
+    uint8_t entry[AHZ_IP_ENTRY_OCTETS], frame[AHZ_FRAME_LONGEST], answer;
+    uint8_t *ip = frame + type + 2;
+    uint64_t read[AHZ_H_ID_WORDS];
+    size_t octets = lent_octets, payload, header;
+
+    memcpy(entry, listed, sizeof entry);
+    memcpy(frame, lent, lent_octets);
+    if (fault("ip-by-source"))
+        memcpy(frame, lent + 6, 6);
+    if (fault("ip-any-destination"))
+        memcpy(entry + 1, frame, 6);
+    if (fault("ip-any-choice"))
+        entry[7] = AHZ_CHOICE_ALL;
+    if (fault("ip-any-vlan"))
+        put_two(entry + 8, AHZ_VLAN_ANY);
+    if (fault("ip-pair-exchanged"))
+        exchange(entry + 10, entry + 14, 4);
+    if (fault("ip-ports-exchanged"))
+        exchange(entry + 20, entry + 22, 2);
+    if (fault("ip-any-type"))
+        put_two(frame + type, AHZ_TYPE_IP);
+    if (fault("ip-type-at-tag") && type != tag)
+        return AHZ_NO_STREAM;
+    if (fault("ip-without-trailer") && real_ahz_read_prp(lent, lent_octets, read, AHZ_H_ID_WORDS) == AHZ_DONE && read[AHZ_H_NUMBERED])
+        octets -= 6;
+    payload = octets - type - 2;
+    if (fault("ip-version-6") && payload > 0 && ip[0] >> 4 == 6)
+        ip[0] = (uint8_t)(0x40 | (ip[0] & 15));
+    if (fault("ip-4-words") && payload >= 20 && ip[0] == 0x44)
+        ip[0] = 0x45;
+    header = payload > 0 ? (ip[0] & 15) * 4u : 20;
+    if (fault("ip-looks-behind") && payload < header + 4)
+        looked_at = lent[lent_octets];
+    if (fault("ip-cut-is-refused") && two(frame + type) == AHZ_TYPE_IP && payload < header)
+        return AHZ_R_TAG_CUT;
+    if (payload > 0 && ip[0] >> 4 == 4 && header >= 20 && payload >= header && !asks_header(entry, ip, payload))
+        return AHZ_NO_STREAM;
+    answer = real_ahz_lookup(entry, sizeof entry, frame, octets, handle);
+    if (fault("ip-handle-at-10") && answer == AHZ_STREAM)
+        *handle = two(listed + 10);
+    return answer;
+}
+
+enum { ALL_KINDS, OTHER_KINDS, KIND_4 };
+
+/* The first match among the entries of a good table, or only among those that are of kind 4 or are not, each asked by itself. */
+static uint8_t entry_by_entry(int which, const uint8_t *table, size_t table_octets, const uint8_t *frame, size_t frame_octets,
+                              uint16_t *handle)
+{
+    for (size_t at = 0; at < table_octets; at += entry_octets(table[at])) {
+        const int by_ip = table[at] == AHZ_KIND_IP;
+        uint8_t answer;
+
+        if (which == (by_ip ? OTHER_KINDS : KIND_4))
+            continue;
+        answer = by_ip ? asks(table + at, frame, frame_octets, handle)
+                       : real_ahz_lookup(table + at, AHZ_ENTRY_OCTETS, frame, frame_octets, handle);
+        if (answer != AHZ_NO_STREAM)
+            return answer;
+    }
+    return AHZ_NO_STREAM;
+}
+
 uint8_t ahz_lookup(const uint8_t *table, size_t table_octets, const uint8_t *frame, size_t frame_octets, uint16_t *handle)
 {
+    uint8_t misread[DECIDES], answer;
+    const size_t octets = misread_table(table, table_octets, misread);
     uint16_t lent = *handle;
-    uint8_t answer = real_ahz_lookup(table, table_octets, frame, frame_octets, handle);
 
+    if (octets > 0)
+        return real_ahz_lookup(misread, octets, frame, frame_octets, handle);
+    answer = real_ahz_lookup(table, table_octets, frame, frame_octets, handle);
+    if (strncmp(chosen, "ip-", 3) == 0 && (answer == AHZ_STREAM || answer == AHZ_NO_STREAM)) {
+        *handle = lent;
+        if (!fault("ip-last"))
+            return entry_by_entry(ALL_KINDS, table, table_octets, frame, frame_octets, handle);
+        answer = entry_by_entry(OTHER_KINDS, table, table_octets, frame, frame_octets, handle);
+        return answer == AHZ_STREAM ? answer : entry_by_entry(KIND_4, table, table_octets, frame, frame_octets, handle);
+    }
     if (fault("892f-looked-up") && (answer == AHZ_R_TAG_CUT || answer == AHZ_R_TAG_TWICE) &&
         tag_type(frame, frame_octets) == AHZ_TYPE_HSR) {
         uint8_t other[AHZ_FRAME_LONGEST];
@@ -683,14 +886,15 @@ uint8_t ahz_lookup(const uint8_t *table, size_t table_octets, const uint8_t *fra
     if (fault("written-back") && frame_octets > 0)
         ((volatile uint8_t *)frame)[0] = frame[0];
     if (fault("dei-in-vlan") && answer == AHZ_STREAM && frame[12] == 0x81 && frame[13] == 0 && (frame[14] & 0x10)) {
-        for (size_t at = 0; at < table_octets; at += 12)
-            if (table[at + 8] == 0 && table[at + 9] == 0 && real_ahz_lookup(table + at, 12, frame, frame_octets, handle) == AHZ_STREAM)
+        for (size_t at = 0; at < table_octets; at += entry_octets(table[at]))
+            if (table[at + 8] == 0 && table[at + 9] == 0 &&
+                real_ahz_lookup(table + at, entry_octets(table[at]), frame, frame_octets, handle) == AHZ_STREAM)
                 return AHZ_STREAM;
         *handle = lent;
         return AHZ_NO_STREAM;
     }
     if (fault("first-entry") && answer == AHZ_STREAM)
-        *handle = (uint16_t)(table[10] << 8 | table[11]);
+        *handle = two(table + entry_octets(table[0]) - 2);
     if (fault("handle-of-none") && answer == AHZ_NO_STREAM)
         *handle = 0;
     if (fault("handle-0-as-none") && answer == AHZ_STREAM && *handle == 0)

@@ -8,19 +8,50 @@ use compare::random::{Random, SEED};
 
 const ADDRESSES: [[u8; 6]; 5] =
     [[2, 0, 0, 0, 0, 1], [2, 0, 0, 0, 0, 2], [1, 0, 0, 0, 0, 2], [0; 6], [0xFF; 6]];
+const IP_ADDRESSES: [[u8; 4]; 3] = [[10, 0, 0, 1], [10, 0, 0, 2], [0; 4]];
+const PORTS: [[u8; 2]; 3] = [[0, 80], [80, 0], [0, 0]];
 
-fn good_entry(random: &mut Random, table: &mut Vec<u8>) {
-    table.push(random.pick(&[1, 2]));
-    table.extend(random.pick(&ADDRESSES));
-    table.push(random.pick(&[1, 2, 3]));
-    table.extend(random.pick(&[0u16, 1, 5, 4_094]).to_be_bytes());
-    table.extend(random.number().to_be_bytes());
+fn good_entry(random: &mut Random) -> Vec<u8> {
+    let mut entry = vec![random.pick(&[1, 2, 4])];
+    entry.extend(random.pick(&ADDRESSES));
+    entry.push(random.pick(&[1, 2, 3]));
+    entry.extend(random.pick(&[0u16, 1, 5, 4_094]).to_be_bytes());
+    if entry[0] == 4 {
+        entry.extend(random.pick(&IP_ADDRESSES));
+        entry.extend(random.pick(&IP_ADDRESSES));
+        entry.push(random.pick(&[0, 46, 63, 255]));
+        entry.push(random.pick(&[1, 2, 3, 4]));
+        entry.extend(random.pick(&PORTS));
+        entry.extend(random.pick(&PORTS));
+    }
+    entry.extend(random.number().to_be_bytes());
+    entry
 }
 
 fn good_table(random: &mut Random, entries: usize) -> Vec<u8> {
-    let mut table = Vec::new();
-    (0..entries).for_each(|_| good_entry(random, &mut table));
-    table
+    (0..entries).flat_map(|_| good_entry(random)).collect()
+}
+
+/// Where the entry of that place begins in a good table.
+fn start(table: &[u8], place: usize) -> usize {
+    (0..place).fold(0, |at, _| at + if table[at] == 4 { 26 } else { 12 })
+}
+
+/// An IP header with ports, mostly good, and perhaps cut.
+fn packet(random: &mut Random) -> Vec<u8> {
+    let first = random.pick(&[0x45, 0x45, 0x45, 0x47, 0x44, 0x65]);
+    let mut packet = vec![first, random.pick(&[0, 46 << 2, 0xFF]), 0, 28, 0, 1];
+    packet.extend(random.pick(&[[0, 0], [0x40, 0], [0x20, 0], [0, 1], [0x1F, 0xFF]]));
+    packet.extend([64, random.pick(&[17, 6, 132, 1]), 0, 0]);
+    packet.extend(random.pick(&IP_ADDRESSES));
+    packet.extend(random.pick(&IP_ADDRESSES));
+    packet.resize(20.max(4 * usize::from(first % 16)), 1);
+    packet.extend(random.pick(&PORTS));
+    packet.extend(random.pick(&PORTS));
+    if random.once_in(3) {
+        packet.truncate(random.below(packet.len() as u64) as usize);
+    }
+    packet
 }
 
 /// A frame that reading refuses by each of its numbers, or by none.
@@ -71,6 +102,10 @@ fn frame(random: &mut Random, refusal: u8) -> Vec<u8> {
             };
             frame.extend(no_type);
             frame.extend([0; 10]);
+        }
+        _ if random.once_in(2) => {
+            frame.extend(random.pick(&[[0x08, 0x00], [0x08, 0x00], [0x86, 0xDD]]));
+            frame.extend(packet(random));
         }
         _ => {
             frame.extend([0x08, 0x00]);
@@ -136,7 +171,7 @@ fn tables_of_every_size_cut_and_damaged() {
             for _ in 0..8 {
                 let at = random.below(table.len() as u64) as usize;
                 let kept = table[at];
-                table[at] = random.pick(&[0, 1, 2, 3, 4, 15, 16, 255]);
+                table[at] = random.pick(&[0, 1, 2, 3, 4, 5, 15, 16, 63, 64, 254, 255]);
                 same(&mut random, &table, &mut seen);
                 table[at] = kept;
             }
@@ -153,13 +188,27 @@ fn tables_of_every_size_cut_and_damaged() {
 fn tables_around_the_longest() {
     let mut random = Random::new(SEED + 1);
     let mut seen = Seen::default();
-    let endings: [&[u8]; 9] = [
+    let cut_ip =
+        vec![4, 2, 0, 0, 0, 0, 1, 3, 0, 0, 10, 0, 0, 1, 10, 0, 0, 2, 46, 2, 0, 80, 0, 80, 0];
+    let bad_ip = |dscp, next| {
+        let mut entry = [&cut_ip[..], &[7]].concat();
+        (entry[18], entry[19]) = (dscp, next);
+        entry
+    };
+    let (bad_dscp, bad_next) = (bad_ip(64, 2), bad_ip(46, 5));
+    let endings: [&[u8]; 15] = [
         &[],
         &[1],
+        &[4],
+        &cut_ip[..12],
+        &cut_ip,
+        &bad_dscp,
+        &bad_next,
         &[2, 2, 0, 0],
         &[1, 2, 0, 0, 0, 0, 1, 3, 0, 0, 0],
         &[0],
         &[3],
+        &[5],
         &[255, 1, 1, 1, 1, 1, 1, 1, 1, 1, 1, 1],
         &[1, 2, 0, 0, 0, 0, 1, 4, 0, 0, 0, 7],
         &[2, 2, 0, 0, 0, 0, 1, 1, 0x0F, 0xFF, 0, 7],
@@ -173,14 +222,16 @@ fn tables_around_the_longest() {
                     (257.., _) => Err(13),
                     (_, []) => Ok(()),
                     (256, _) => Err(13),
-                    (_, [0 | 3 | 255, ..]) => Err(10),
-                    (_, whole) if whole.len() == 12 => Err(12),
+                    (_, [0 | 3 | 5 | 255, ..]) => Err(10),
+                    (_, [1 | 2, ..]) if ending.len() == 12 => Err(12),
+                    (_, [4, ..]) if ending.len() == 26 => Err(12),
                     _ => Err(11),
                 };
                 assert_eq!(check_table(&table), expected, "{entries} and {ending:?}");
                 same(&mut random, &table, &mut seen);
                 let bad = random.below(entries.min(256) as u64) as usize;
-                table[12 * bad] = random.pick(&[0, 3, 255]);
+                let at = start(&table, bad);
+                table[at] = random.pick(&[0, 3, 5, 255]);
                 assert_eq!(check_table(&table), Err(10), "{bad} of {entries} and {ending:?}");
                 same(&mut random, &table, &mut seen);
             }
@@ -196,10 +247,14 @@ fn lookups_of_refused_frames() {
     let mut cases = 0;
     let mut all = Vec::new();
     for address in ADDRESSES {
-        for kind in [1, 2] {
+        for kind in [1, 2, 4] {
             all.push(kind);
             all.extend(address);
-            all.extend([3, 0, 0, 0, 99]);
+            all.extend([3, 0, 0]);
+            if kind == 4 {
+                all.extend([0, 0, 0, 0, 0, 0, 0, 0, 255, 1, 0, 0, 0, 0]);
+            }
+            all.extend([0, 99]);
         }
     }
     let none = [1, 9, 9, 9, 9, 9, 9, 3, 0, 0, 0, 1];
@@ -224,17 +279,23 @@ fn a_match_at_every_place() {
     let mut random = Random::new(SEED + 3);
     let mut cases = 0;
     let (destination, source) = ([2, 0, 0, 0, 0, 7], [2, 0, 0, 0, 0, 9]);
-    let frame = [&destination[..], &source, &[0x08, 0x00]].concat();
+    let ip =
+        [0x45, 46 << 2, 0, 28, 0, 1, 0, 0, 64, 17, 0, 0, 10, 0, 0, 1, 10, 0, 0, 2, 0, 80, 1, 187];
+    let wanted = [10, 0, 0, 1, 10, 0, 0, 2, 46, 2, 0, 80, 1, 187];
+    let frame = [&destination[..], &source, &[0x08, 0x00], &ip].concat();
     for entries in [1usize, 2, 3, 15, 16, 17, 255, 256] {
         for place in 0..entries {
-            let mut table = good_table(&mut random, entries);
-            assert_eq!(lookup(&table, &frame), Ok(None), "{place}");
-            let (kind, address) = random.pick(&[(1, destination), (2, source)]);
+            let mut table: Vec<Vec<u8>> = (0..entries).map(|_| good_entry(&mut random)).collect();
+            assert_eq!(lookup(&table.concat(), &frame), Ok(None), "{place}");
+            let (kind, address, wanted) = random.pick(&[
+                (1, destination, &[][..]),
+                (2, source, &[]),
+                (4, destination, &wanted),
+            ]);
             let handle = random.number().to_be_bytes();
-            let entry = [&[kind][..], &address, &[3, 0, 0], &handle].concat();
-            table[12 * place..12 * (place + 1)].copy_from_slice(&entry);
+            table[place] = [&[kind][..], &address, &[3, 0, 0], wanted, &handle].concat();
             let found = u16::from_be_bytes(handle);
-            assert_eq!(lookup(&table, &frame), Ok(Some(found)), "{place}");
+            assert_eq!(lookup(&table.concat(), &frame), Ok(Some(found)), "{place}");
             cases += 4;
         }
     }
@@ -250,11 +311,14 @@ fn every_handle_and_every_control_value() {
         let ([a, b], [c, d]) = (vlan.to_be_bytes(), handle.to_be_bytes());
         [1, 2, 0, 0, 0, 0, 7, choice, a, b, c, d]
     };
+    let any_ip = [4, 2, 0, 0, 0, 0, 7, 3, 0, 0, 0, 0, 0, 0, 0, 0, 0, 0, 255, 1, 0, 0, 0, 0];
     let vlans = [entry(1, 5, 1), entry(2, 0, 2), entry(3, 4_094, 3), entry(1, 0, 4)].concat();
     for value in 0..=u16::MAX {
         let bare = [&addresses[..], &[0x08, 0x00]].concat();
         assert_eq!(lookup(&entry(3, 0, value).repeat(3), &bare), Ok(Some(value)));
         let [high, low] = value.to_be_bytes();
+        let by_ip = [&any_ip[..], &[high, low]].concat();
+        assert_eq!(lookup(&by_ip.repeat(3), &[&bare[..], &[0x45; 20]].concat()), Ok(Some(value)));
         let tagged = [&addresses[..], &[0x81, 0x00, high, low, 0x08, 0x00]].concat();
         let expected = match value % 4_096 {
             4_095 => Err(5),
@@ -265,7 +329,7 @@ fn every_handle_and_every_control_value() {
         };
         assert_eq!(lookup(&vlans, &tagged), expected, "{value:#06x}");
     }
-    report("every handle and control value, ours and plain", 4 * 65_536);
+    report("every handle and control value, ours and plain", 6 * 65_536);
 }
 
 /// Tables whose length does not fit 16 bits: 13, behind a bad entry before the 257th.
@@ -273,19 +337,20 @@ fn every_handle_and_every_control_value() {
 fn tables_of_many_octets() {
     let mut random = Random::new(SEED + 6);
     let mut seen = Seen::default();
-    for octets in [65_535, 65_536, 65_540, 65_548, 65_536 + 3_072, 131_072 + 24] {
+    for octets in [65_535, 65_536, 65_540, 65_548, 65_536 + 3_072, 65_536 + 6_656, 131_072 + 24] {
         let mut table = good_table(&mut random, octets / 12 + 1);
         table.truncate(octets);
         assert_eq!(check_table(&table), Err(13), "{octets}");
         same(&mut random, &table, &mut seen);
-        table[12 * random.below(256) as usize] = 3;
+        let at = start(&table, random.below(256) as usize);
+        table[at] = 3;
         assert_eq!(check_table(&table), Err(10), "{octets}");
         same(&mut random, &table, &mut seen);
     }
     report("tables of many octets, ours and plain", seen.cases);
 }
 
-/// An entry and a frame that differ in one bit of an address or of the VLAN.
+/// An entry and a frame that differ in one bit of a field that is compared.
 #[test]
 fn one_bit_of_difference() {
     let mut random = Random::new(SEED + 4);
@@ -296,11 +361,16 @@ fn one_bit_of_difference() {
         let vlan = random.between(1, 4_094) as u16;
         frame.extend([0x81, 0x00]);
         frame.extend(vlan.to_be_bytes());
-        frame.extend([0x08, 0x00]);
-        for kind in [1, 2] {
-            let address = if kind == 1 { &frame[..6] } else { &frame[6..12] };
+        frame.extend([0x08, 0x00, 0x46, 46 << 2]);
+        frame.resize(18 + 28, 0);
+        random.fill(&mut frame[18 + 12..]);
+        frame[18 + 9] = 132;
+        let ip = [&frame[18 + 12..18 + 20], &[46, 4], &frame[18 + 24..]].concat();
+        for kind in [1, 2, 4] {
+            let address = if kind == 2 { &frame[6..12] } else { &frame[..6] };
             let vlan = vlan.to_be_bytes();
-            let table = [&[kind][..], address, &[1], &vlan, &[0x12, 0x34]].concat();
+            let ip = if kind == 4 { &ip[..] } else { &[] };
+            let table = [&[kind][..], address, &[1], &vlan, ip, &[0x12, 0x34]].concat();
             assert_eq!(lookup(&table, &frame), Ok(Some(0x1234)));
             for bit in 0..table.len() * 8 {
                 let mut other = table.clone();

@@ -258,3 +258,46 @@ fn shortest_trailer() {
         }
     }
 }
+
+/// CR 1: DSCP 63, 64, 254 and 255; next protocol 0, 1, 4 and 5; header lengths of 4 and 5 words; a payload
+/// of one octet less than its header, and than that and the ports; 256 and 257 entries of kind 4.
+#[test]
+fn ip_streams() {
+    let entry = |dscp, next, ports: [u8; 4]| {
+        [&[4, 2, 2, 2, 2, 2, 2, 3, 0, 0, 0, 0, 0, 0, 0, 0, 0, 0, dscp, next], &ports[..], &[0, 7]]
+            .concat()
+    };
+    for (dscp, next, verdict) in [
+        (63, 1, Ok(())),
+        (64, 1, Err(12)),
+        (254, 1, Err(12)),
+        (255, 1, Ok(())),
+        (255, 0, Err(12)),
+        (255, 4, Ok(())),
+        (255, 5, Err(12)),
+    ] {
+        assert_eq!(layers::check_table(&entry(dscp, next, [0; 4])), verdict, "{dscp} and {next}");
+    }
+    let (no_port, port) = (entry(255, 2, [0; 4]), entry(255, 2, [0, 0, 0, 80]));
+    assert_eq!(layers::check_table(&port.repeat(256)), Ok(()));
+    assert_eq!(layers::check_table(&port.repeat(257)), Err(13));
+    for tags in [&[][..], &C, &R, &HSR, &C_AND_R, &C_AND_HSR] {
+        let at = 14 + tags.len();
+        for (first, header) in [(0x44, None), (0x45, Some(20)), (0x46, Some(24))] {
+            let mut frame = framed(tags, at + 28);
+            (frame[at], frame[at + 9]) = (first, 17);
+            frame[at + 23] = 80;
+            frame[at + 27] = 80;
+            for length in at..=frame.len() {
+                let found = |least: usize| header.filter(|header| length >= at + header + least);
+                let handle = |found: Option<usize>| Ok(found.map(|_| 7));
+                assert_eq!(
+                    layers::lookup(&no_port, &frame[..length]),
+                    handle(found(0)),
+                    "{length}"
+                );
+                assert_eq!(layers::lookup(&port, &frame[..length]), handle(found(4)), "{length}");
+            }
+        }
+    }
+}

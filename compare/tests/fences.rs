@@ -116,12 +116,21 @@ fn calls_on_checks() {
 /// Tables cut everywhere and full, with frames good and refused.
 #[test]
 fn calls_on_tables() {
-    let entry = [1, 2, 2, 2, 2, 2, 2, 3, 0, 0, 0, 9];
-    let other = [2, 9, 2, 2, 2, 2, 2, 1, 0, 5, 0, 9];
+    let entry = [1, 2, 2, 2, 2, 2, 2, 3, 0, 0, 0, 9].to_vec();
+    let other = [2, 9, 2, 2, 2, 2, 2, 1, 0, 5, 0, 9].to_vec();
+    let by_ip = by_ip(2, [0, 80, 1, 187]);
+    let tables = [
+        [&entry[..], &other].concat(),
+        [&other[..], &entry].concat(),
+        [&by_ip[..], &other].concat(),
+        [&other[..], &by_ip, &by_ip].concat(),
+        other.repeat(256),
+        by_ip.repeat(256),
+    ];
     let frames = frames();
     fenced(|| {
-        for good in [[entry, other].concat(), [other, entry].concat(), other.repeat(256)] {
-            let cuts = (0..=24).chain([good.len() - 1, good.len()]);
+        for good in &tables {
+            let cuts = (0..=good.len().min(64)).chain([good.len() - 1, good.len()]);
             for table in cuts.map(|cut| &good[..cut]) {
                 let _ = check_table(table);
                 for frame in &frames {
@@ -131,9 +140,53 @@ fn calls_on_tables() {
                 }
             }
         }
-        lengths(&[&entry.repeat(256)[..], &[9]].concat()[3_060..], &[65_536], |table| {
-            let _ = check_table(table);
-        });
+        for entry in [&entry, &by_ip] {
+            let full = [&entry.repeat(256)[..], &[9]].concat();
+            lengths(&full[255 * entry.len()..], &[65_536], |table| {
+                let _ = check_table(table);
+            });
+        }
+    });
+}
+
+/// An entry of kind 4 for what is sent to the frames' destination.
+fn by_ip(next: u8, ports: [u8; 4]) -> Vec<u8> {
+    let ip = [10, 0, 0, 1, 10, 0, 0, 2, 46, next];
+    [&[4, 2, 2, 2, 2, 2, 2, 3, 0, 0][..], &ip, &ports, &[0, 9]].concat()
+}
+
+/// IP frames cut everywhere, with headers of every length, in tables that ask for all of the header and
+/// for either port. What is cut at the fence is the header, an option or a port.
+#[test]
+fn calls_on_ip_frames() {
+    let tags: [&[u8]; 4] =
+        [&[], &[0x81, 0, 0, 5], &[0xF1, 0xC1, 0, 0, 0, 1], &[0x89, 0x2F, 0xA0, 34, 0, 1]];
+    let tables = [
+        by_ip(1, [0, 80, 1, 187]),
+        by_ip(2, [0; 4]),
+        by_ip(2, [0, 80, 1, 187]),
+        [by_ip(2, [9, 80, 0, 0]), by_ip(2, [0, 0, 1, 187])].concat(),
+    ];
+    fenced(|| {
+        for tags in tags {
+            for words in 4..=15 {
+                let mut ip = vec![0x40 | words, 46 << 2, 0, 28, 0, 1, 0, 0, 64, 17, 0, 0];
+                ip.extend([10, 0, 0, 1, 10, 0, 0, 2]);
+                ip.resize(20.max(4 * usize::from(words)), 1);
+                let head = [&[2; 12], tags, &[8, 0]].concat();
+                let whole = [&head[..], &ip, &[0, 80, 1, 187]].concat();
+                for length in head.len()..=whole.len() {
+                    let is_whole = words >= 5 && length >= head.len() + ip.len();
+                    let has_ports = words >= 5 && length == whole.len();
+                    for (table, matches) in
+                        tables.iter().zip([is_whole, is_whole, has_ports, has_ports])
+                    {
+                        let found = matches.then_some(9);
+                        assert_eq!(lookup(table, &whole[..length]), Ok(found), "{length}");
+                    }
+                }
+            }
+        }
     });
 }
 

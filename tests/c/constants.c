@@ -6,8 +6,8 @@
 #define HOLDS(what) typedef char NAMED(__LINE__)[(what) ? 1 : -1]
 
 /* The version, as the preprocessor sees it too. */
-#if AHZ_VERSION != 327680 || AHZ_VERSION_MAJOR != 5 || AHZ_VERSION_MINOR != 0
-#error "the version is not 5.0"
+#if AHZ_VERSION != 327681 || AHZ_VERSION_MAJOR != 5 || AHZ_VERSION_MINOR != 1
+#error "the version is not 5.1"
 #endif
 
 /* When the layer says no. */
@@ -28,7 +28,7 @@ HOLDS(AHZ_TICK == 111 && AHZ_RESET == 112 && AHZ_LATENT_OK == 113 && AHZ_LATENT_
 
 /* Reading a frame. */
 HOLDS(AHZ_FRAME_SHORTEST == 6 + 6 + 2 && AHZ_FRAME_LONGEST == 1522 && AHZ_CTAG_OCTETS == 2 + 2 && AHZ_RTAG_OCTETS == 2 + 2 + 2);
-HOLDS(AHZ_TYPE_CTAG == 0x8100 && AHZ_TYPE_RTAG == 0xF1C1 && AHZ_VLAN_LAST == 4094);
+HOLDS(AHZ_TYPE_CTAG == 0x8100 && AHZ_TYPE_RTAG == 0xF1C1 && AHZ_TYPE_IP == 0x0800 && AHZ_VLAN_LAST == 4094);
 HOLDS(AHZ_H_DESTINATION == 0 && AHZ_H_SOURCE == 1 && AHZ_H_TAGGED == 2 && AHZ_H_VLAN == 3 && AHZ_H_NUMBERED == 4);
 HOLDS(AHZ_H_NUMBER == 5 && AHZ_H_TYPE == 6 && AHZ_H_PAYLOAD == 7 && AHZ_H_WORDS == 8);
 
@@ -39,10 +39,13 @@ HOLDS(AHZ_PATH_ID_LAST == 15 && AHZ_H_PATH_ID == 8 && AHZ_H_ID_WORDS == 8 + 1);
 /* A frame with its check. */
 HOLDS(AHZ_FCS_OCTETS == 4 && AHZ_FCS_SHORTEST == 14 + 4 && AHZ_FCS_LONGEST == 1522 + 4);
 
-/* Stream tables. */
-HOLDS(AHZ_KIND_DESTINATION == 1 && AHZ_KIND_SOURCE == 2);
+/* Stream tables, and IP streams in them. */
+HOLDS(AHZ_KIND_DESTINATION == 1 && AHZ_KIND_SOURCE == 2 && AHZ_KIND_IP == 4);
 HOLDS(AHZ_CHOICE_TAGGED == 1 && AHZ_CHOICE_PRIORITY == 2 && AHZ_CHOICE_ALL == 3 && AHZ_VLAN_ANY == 0);
-HOLDS(AHZ_ENTRY_OCTETS == 1 + 6 + 1 + 2 + 2 && AHZ_TABLE_ENTRIES == 256 && AHZ_TABLE_LONGEST == 256 * 12);
+HOLDS(AHZ_IP_ANY == 0 && AHZ_DSCP_LAST == 63 && AHZ_DSCP_ANY == 255 && AHZ_PORT_ANY == 0);
+HOLDS(AHZ_PROTOCOL_NONE == 1 && AHZ_PROTOCOL_UDP == 2 && AHZ_PROTOCOL_TCP == 3 && AHZ_PROTOCOL_SCTP == 4);
+HOLDS(AHZ_ENTRY_OCTETS == 1 + 6 + 1 + 2 + 2 && AHZ_IP_ENTRY_OCTETS == 1 + 6 + 1 + 2 + 4 + 4 + 1 + 1 + 2 + 2 + 2);
+HOLDS(AHZ_TABLE_ENTRIES == 256 && AHZ_TABLE_LONGEST == 256 * 26);
 
 /* Numbering and recovery. */
 HOLDS(AHZ_RULE_VECTOR == 0 && AHZ_RULE_MATCH == 1 && AHZ_NOT_TAKEN == 0 && AHZ_TAKEN == 1);

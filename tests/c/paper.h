@@ -1,6 +1,6 @@
-/* Document 01 as small functions, with document 02's CR 2, the use, CR 4, the longer history, CR 5, HSR and PRP, CR 6, the frame check
- * sequence, and CR 7, holes before the first packet. They say what is expected of the layer, are written from the papers, and are slow and
- * plain: bits are counted and divided one by one, and marks are an array. None of them calls the layer. */
+/* Document 01 as small functions, with document 02's CR 1, IP streams, CR 2, the use, CR 4, the longer history, CR 5, HSR and PRP, CR 6,
+ * the frame check sequence, and CR 7, holes before the first packet. They say what is expected of the layer, are written from the papers,
+ * and are slow and plain: bits are counted and divided one by one, and marks are an array. None of them calls the layer. */
 #ifndef PAPER_H
 #define PAPER_H
 
@@ -147,15 +147,46 @@ static inline uint8_t paper_check_fcs(const uint8_t *frame, size_t octets) {
 
 /* ---- Stream tables ---- */
 
+/* The octets of an entry with its kind; 0 where this is none. */
+static inline size_t paper_entry(uint8_t kind) {
+    if (kind == 1 || kind == 2) return 1 + 11;
+    return kind == 4 ? 1 + 25 : 0;
+}
+
 static inline uint8_t paper_check_table(const uint8_t *table, size_t octets) {
     size_t at, entry = 0;
-    for (at = 0; at < octets; at += 12) {
+    for (at = 0; at < octets; at += paper_entry(table[at])) {
+        const uint8_t kind = table[at];
         if (++entry == 257) return 13;
-        if (table[at] != 1 && table[at] != 2) return 10;
-        if (octets - at < 12) return 11;
+        if (paper_entry(kind) == 0) return 10;
+        if (octets - at < paper_entry(kind)) return 11;
         if (table[at + 7] < 1 || table[at + 7] > 3 || big_endian(table + at + 8, 2) > 4094) return 12;
+        /* "DSCP 1 (0 to 63, 255 ignores), next protocol 1 (1 none, 2 UDP, 3 TCP, 4 SCTP)." */
+        if (kind == 4 && table[at + 18] > 63 && table[at + 18] != 255) return 12;
+        if (kind == 4 && (table[at + 19] < 1 || table[at + 19] > 4)) return 12;
     }
     return 0;
+}
+
+/* Whether what an entry of kind 4 asks is so in the payload of a frame of that last type. */
+static inline int paper_ip(const uint8_t *entry, uint64_t type, const uint8_t *payload, size_t octets) {
+    static const uint8_t protocols[] = {17, 6, 132};
+    const uint32_t source = big_endian(entry + 10, 4), destination = big_endian(entry + 14, 4);
+    const uint32_t from = big_endian(entry + 20, 2), to = big_endian(entry + 22, 2);
+    const unsigned dscp = entry[18], next = entry[19];
+    size_t header;
+    if (type != 0x0800 || octets == 0) return 0;
+    header = payload[0] % 16u * 4;
+    if (payload[0] / 16 != 4 || header < 20 || octets < header) return 0; /* bad, or cut */
+    if (source != 0 && source != big_endian(payload + 12, 4)) return 0;
+    if (destination != 0 && destination != big_endian(payload + 16, 4)) return 0;
+    if (dscp != 255 && dscp != payload[1] / 4u) return 0;
+    if (next == 1) return 1; /* "With none, protocol and ports aren't compared." */
+    if (payload[9] != protocols[next - 2]) return 0;
+    if (from == 0 && to == 0) return 1;
+    /* "A later fragment where a port is asked", and "that plus four octets where a port is asked". */
+    if (big_endian(payload + 6, 2) % 8192 != 0 || octets < header + 4) return 0;
+    return (from == 0 || from == big_endian(payload + header, 2)) && (to == 0 || to == big_endian(payload + header + 2, 2));
 }
 
 static inline uint8_t paper_lookup(const uint8_t *table, size_t table_octets, const uint8_t *frame, size_t octets, uint16_t *handle) {
@@ -164,12 +195,14 @@ static inline uint8_t paper_lookup(const uint8_t *table, size_t table_octets, co
     size_t at;
     if (bad != 0) return bad;
     if (got.refusal != 0) return got.refusal;
-    for (at = 0; at < table_octets; at += 12) {
-        const uint8_t choice = table[at + 7];
+    for (at = 0; at < table_octets; at += paper_entry(table[at])) {
+        const uint8_t kind = table[at], choice = table[at + 7];
         const uint32_t vlan = big_endian(table + at + 8, 2);
+        const size_t payload = (size_t)got.words[7];
         const int allowed = choice == 3 || (choice == 1 && got.words[2] == 1) || (choice == 2 && got.words[3] == 0);
-        if (memcmp(table + at + 1, table[at] == 1 ? frame : frame + 6, 6) == 0 && allowed && (vlan == 0 || vlan == got.words[3])) {
-            *handle = (uint16_t)big_endian(table + at + 10, 2);
+        if (memcmp(table + at + 1, kind == 2 ? frame + 6 : frame, 6) == 0 && allowed && (vlan == 0 || vlan == got.words[3]) &&
+            (kind != 4 || paper_ip(table + at, got.words[6], frame + payload, octets - payload))) {
+            *handle = (uint16_t)big_endian(table + at + paper_entry(kind) - 2, 2);
             return AHZ_STREAM;
         }
     }

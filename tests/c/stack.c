@@ -45,6 +45,7 @@ static const uint8_t both[] = {ADDRESSES, 0x81, 0x00, 0x20, 0x05, 0xF1, 0xC1, 0x
 static const uint8_t hsr[] = {ADDRESSES, 0x89, 0x2F, 0xA0, 0x09, 0x01, 0x02, 0x88, 0xB5, 0xAA, 0xBB, 0xCC};
 static const uint8_t tagged_hsr[] = {ADDRESSES, 0x81, 0x00, 0x20, 0x05, 0x89, 0x2F, 0xA0, 0x09, 0x01, 0x02, 0x88, 0xB5, 0xAA, 0xBB, 0xCC};
 static const uint8_t prp[] = {ADDRESSES, 0x88, 0xB5, 0xAA, 0xBB, 0xCC, 0x01, 0x02, 0xA0, 0x09, 0x88, 0xFB};
+static const uint8_t ip[] = {ADDRESSES, 0x08, 0x00, 0x45, 0, 0, 28, 0, 1, 0, 0, 64, 17, 0, 0, 10, 0, 0, 1, 10, 0, 0, 2, 0, 80, 1, 187};
 static const uint8_t hsr_prp[] = {ADDRESSES, 0x81, 0x00, 0x20, 0x05, 0x89, 0x2F, 0xA0, 0x0F, 0x01, 0x02, 0x88, 0xB5, 0xAA, 0xBB, 0xCC,
                                   0x01, 0x02, 0xA0, 0x09, 0x88, 0xFB};
 static const struct {
@@ -52,13 +53,14 @@ static const struct {
     size_t count;
 } frames[] = {{plain, 0}, {plain, sizeof plain}, {tagged, 17}, {tagged, sizeof tagged}, {numbered, sizeof numbered}, {both, 23},
               {both, sizeof both}, {hsr, 19}, {hsr, sizeof hsr}, {tagged_hsr, sizeof tagged_hsr}, {prp, sizeof prp},
-              {prp, sizeof prp - 1}, {hsr_prp, sizeof hsr_prp}};
+              {prp, sizeof prp - 1}, {hsr_prp, sizeof hsr_prp}, {ip, 33}, {ip, sizeof ip - 1}, {ip, sizeof ip}};
 enum { FRAMES = sizeof frames / sizeof frames[0] };
 static const uint8_t checked[] = {ADDRESSES, 0x88, 0xB5, 0xAA, 0xBB, 0xCC, 0x34, 0x86, 0x4D, 0x10}; /* plain, with its check */
 static const uint8_t longest[AHZ_FCS_LONGEST + 1] = {ADDRESSES, 0x88, 0xB5};
 static const size_t lengths[] = {0, 1, 13, 14, 17, 18, 60, AHZ_FRAME_LONGEST, AHZ_FRAME_LONGEST + 1, AHZ_FCS_LONGEST, AHZ_FCS_LONGEST + 1};
 enum { LENGTHS = sizeof lengths / sizeof lengths[0] };
-static const uint8_t table[] = {2, 0x02, 0, 0, 0, 0, 0x06, 1, 0, 5, 0, 8, 1, 0x02, 0, 0, 0, 0, 0x07, 3, 0, 0, 0, 7};
+static const uint8_t table[] = {2, 0x02, 0, 0, 0, 0, 0x06, 1, 0, 5, 0, 8, 4, 0x02, 0, 0, 0, 0, 0x07, 3, 0, 0, 10, 0, 0, 1, 10, 0, 0, 2, 0,
+                                2, 0, 80, 1, 187, 0, 9, 1, 0x02, 0, 0, 0, 0, 0x07, 3, 0, 0, 0, 7};
 static const uint8_t payload[] = {0x10, 0, 0, 0, 1, 0x11, 0, 10, 0x12, 0x0F, 0xA0, 0x00, 0x13};
 static const uint8_t tape[] = {0x0F, 0, 0, 0, 0, 4, 0, 0, 0, 100, 0, 100, 2, 0, 0, 0, 1, 1, 0, 10, 1, 0, 10, 2, 3, 1, 0, 20, 4, 5, 6};
 /* H 512: slides over some words and over all, late packets, one that is too far. */

@@ -370,28 +370,68 @@ fn checks(figures: &mut Vec<Figure>) {
     }
 }
 
+/// UDP from port 5001 to 6000 behind an R-TAG, in 64 octets.
+fn ip_frame(stream: u8) -> Vec<u8> {
+    let mut frame = frame(64, stream, None, Some(Encoding::RTag));
+    let ip = [0x45, 0xB8, 0, 44, 0, 1, 0x40, 0, 64, 17, 0, 0, 10, 0, 0, 1, 10, 0, 0, 2];
+    let ports = [0x13, 0x89, 0x17, 0x70];
+    frame[20..44].copy_from_slice(&[&ip[..], &ports].concat());
+    frame
+}
+
+/// Entries of kind 4 with every field in use, of which such a frame matches the last alone: the others
+/// have another address, or its address and another port.
+fn ip_table(entries: usize, same_address: bool) -> Vec<u8> {
+    let entry = |i: usize| {
+        let last = i + 1 == entries;
+        let stream = if same_address { entries - 1 } else { i } as u8;
+        let [high, low] = if last || !same_address { [0x17, 0x70] } else { [0x20, i as u8] };
+        let mut entry = vec![4, 2, 0, 0, 0, 1, stream, 3, 0, 0];
+        entry.extend([10, 0, 0, 1, 10, 0, 0, 2, 46, 2, 0x13, 0x89, high, low]);
+        entry.extend((i as u16).to_be_bytes());
+        entry
+    };
+    (0..entries).flat_map(entry).collect()
+}
+
+fn lookup(what: String, table: &[u8], frame: &[u8]) -> Figure {
+    both(
+        what,
+        |times| repeat(times, || ours::streams::lookup(black_box(table), black_box(frame))),
+        |times| repeat(times, || called::lookup(black_box(table), black_box(frame))),
+    )
+}
+
+fn check_of(what: &str, table: &[u8]) -> Figure {
+    both(
+        what,
+        |times| repeat(times, || ours::streams::check_table(black_box(table))),
+        |times| repeat(times, || called::check_table(black_box(table))),
+    )
+}
+
 fn lookups(figures: &mut Vec<Figure>) {
     for entries in [1, 16, 256] {
         let table = table(entries);
-        let table = &table[..];
         let hit = frame(64, (entries - 1) as u8, None, Some(Encoding::RTag));
         let mut miss = hit.clone();
         miss[0] = 4;
-        for (what, frame) in [("hit at the end", &hit[..]), ("miss", &miss[..])] {
-            figures.push(both(
-                format!("lookup, {entries} entries, {what}"),
-                |times| repeat(times, || ours::streams::lookup(black_box(table), black_box(frame))),
-                |times| repeat(times, || called::lookup(black_box(table), black_box(frame))),
-            ));
+        for (what, frame) in [("hit at the end", hit), ("miss", miss)] {
+            figures.push(lookup(format!("lookup, {entries} entries, {what}"), &table, &frame));
         }
     }
-    let table = table(256);
-    let table = &table[..];
-    figures.push(both(
-        "check of a table, 256 entries",
-        |times| repeat(times, || ours::streams::check_table(black_box(table))),
-        |times| repeat(times, || called::check_table(black_box(table))),
-    ));
+    for entries in [1, 16, 256] {
+        let hit = ip_frame((entries - 1) as u8);
+        for (what, same_address) in [("other ports", true), ("other addresses", false)] {
+            let table = ip_table(entries, same_address);
+            let found = plain::streams::lookup(&table, &hit);
+            assert_eq!(found, Ok(Some((entries - 1) as u16)), "the last entry was to match");
+            let what = format!("lookup, {entries} IP entries, {what}, hit at the end");
+            figures.push(lookup(what, &table, &hit));
+        }
+    }
+    figures.push(check_of("check of a table, 256 entries", &table(256)));
+    figures.push(check_of("check of a table, 256 IP entries", &ip_table(256, false)));
 }
 
 /// Packets on one state: the first number lies so far from 10, and then each so far from the one

@@ -5,18 +5,27 @@ use mathlib.Core.Bool.{Bool}
 use mathlib.Core.List.{List}
 use Rattle.octets.proofs.Unique.{one}
 use Rattle.frame.specs.declared.Header.{Header}
-use Rattle.entry.specs.declared.Fields.{Fields}
-use Rattle.entry.specs.Contents.{HasBody, Says, Ranges}
-use Rattle.entry.specs.Matching.{Matches}
+use Rattle.entry.specs.Contents.{HasBody, Ranges, IpRanges, Unfit}
+use Rattle.entry.specs.Ip.{AllowsIp}
+use Rattle.entry.specs.Matching.{Keys, Allows}
 
 pub has-body-one : (kind : ℕ) {r r′ : ℕ} → HasBody kind r → HasBody kind r′ → r ≡ r′
 has-body-one kind = one
 
-pub says-one : (e : List ℕ) {r r′ : Fields} → Says e r → Says e r′ → r ≡ r′
-says-one e = one
-
 pub ranges-one : (choice vlan : ℕ) {r r′ : Bool} → Ranges choice vlan r → Ranges choice vlan r′ → r ≡ r′
 ranges-one choice vlan = one
 
-pub matches-one : (e : Fields) (h : Header) {r r′ : Bool} → Matches e h r → Matches e h r′ → r ≡ r′
-matches-one e h = one
+pub ip-ranges-one : (dscp protocol : ℕ) {r r′ : Bool} → IpRanges dscp protocol r → IpRanges dscp protocol r′ → r ≡ r′
+ip-ranges-one dscp protocol = one
+
+pub unfit-one : (e : List ℕ) {r r′ : Bool} → Unfit e r → Unfit e r′ → r ≡ r′
+unfit-one e = one
+
+pub allows-ip-one : (e : List ℕ) (type : ℕ) (p : List ℕ) {r r′ : Bool} → AllowsIp e type p r → AllowsIp e type p r′ → r ≡ r′
+allows-ip-one e type p = one
+
+pub keys-one : (kind : ℕ) (h : Header) {r r′ : ℕ} → Keys kind h r → Keys kind h r′ → r ≡ r′
+keys-one kind h = one
+
+pub allows-one : (front key vlan : ℕ) (h : Header) {r r′ : Bool} → Allows front key vlan h r → Allows front key vlan h r′ → r ≡ r′
+allows-one front key vlan h = one

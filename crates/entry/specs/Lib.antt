@@ -1,2 +1,3 @@
 pub mod Contents
+pub mod Ip
 pub mod Matching

@@ -1,10 +1,13 @@
--- When an entry matches a frame (document 01, "Stream tables"; 002 clauses 9.1.2 and 9.1.3 for the three tag choices). Assumes nothing.
-use Prim.Native.Nat.{ℕ}
+-- When an entry matches a frame (document 01, "Stream tables"; 002 clauses 9.1.2 and 9.1.3 for the three tag choices; document 02, CR 1 for
+-- IP streams). Assumes nothing.
+use Prim.Native.Nat.{ℕ, _+_, _*_, _/_, _%_}
 use mathlib.Core.Path.{_≡_}
 use mathlib.Core.Bool.{Bool, cond, not, _&&_, _||_}
-use lib.Dec.{eqb}
+use mathlib.Core.List.{List}
+use lib.Dec.{ltb, eqb}
 use Rattle.frame.specs.declared.Header.{Header}
-use Rattle.entry.specs.declared.Fields.{Fields}
+use Rattle.entry.specs.Contents.{kind, IP, address, choice, vlan}
+use Rattle.entry.specs.Ip.{ipAllows}
 
 -- "tagged: has a C-TAG; priority: none, or VLAN id 0; all: any"
 unfoldable pub choiceAllows : ℕ → (tagged : Bool) → (vlan : ℕ) → Bool
@@ -12,18 +15,32 @@ choiceAllows choice tagged vlan = (eqb choice 1 && tagged) || (eqb choice 2 && (
 
 -- "An entry matches if the address is equal, the choice allows the frame" .. "and its VLAN is 0 or equals the frame's": the test of every
 -- kind, with the frame's address that the kind asks for
-unfoldable pub allows : Fields → (address : ℕ) → Header → Bool
-allows e address h =
-    eqb (e .address) address && choiceAllows (e .choice) (h .tagged) (h .vlan) && (eqb (e .vlan) 0 || eqb (e .vlan) (h .vlan))
+unfoldable pub allows : List ℕ → (asked : ℕ) → Header → Bool
+allows e asked h =
+    eqb (address e) asked && choiceAllows (choice e) (h .tagged) (h .vlan) && (eqb (vlan e) 0 || eqb (vlan e) (h .vlan))
 
--- "Kind 1 (Null, by destination) and kind 2 (by source)"
+-- "Kind 1 (Null, by destination) and kind 2 (by source)"; kind 4 has a "destination address"
 unfoldable pub addressOf : ℕ → Header → ℕ
 addressOf kind h = cond (eqb kind 2) (h .source) (h .destination)
 
--- "An entry matches" a frame whose header this is
-unfoldable pub matches : Fields → Header → Bool
-matches e h = allows e (addressOf (e .kind) h) h
+-- "An entry matches" a frame with this header and payload; kind 4 asks for more
+unfoldable pub matches : List ℕ → Header → List ℕ → Bool
+matches e h p = allows e (addressOf (kind e) h) h && (not (eqb (kind e) IP) || ipAllows e (h .kind) p)
 
--- the promise of `matches`
-abbrev pub Matches : Fields → Header → Bool → Type 0
-Matches e h r = r ≡ matches e h
+-- what the inner functions promise their callers. `key`: the number of an entry's first seven octets, kind and address, where the kind is
+-- this and the address the frame's; where that is no number of 48 bits, none that an entry of a kind has
+unfoldable pub keyOf : ℕ → Header → ℕ
+keyOf kind h = cond (ltb (addressOf kind h) 281474976710656) (kind * 281474976710656 + addressOf kind h) 0
+
+-- `allows`: the test of every kind, by the number of an entry's first eight octets
+unfoldable pub allowsBy : (front key vlan : ℕ) → Header → Bool
+allowsBy front key vlan h =
+    eqb (front / 256) key && choiceAllows (front % 256) (h .tagged) (h .vlan) && (eqb vlan 0 || eqb vlan (h .vlan))
+
+-- the promises: of `key`
+abbrev pub Keys : ℕ → Header → ℕ → Type 0
+Keys kind h r = r ≡ keyOf kind h
+
+-- of `allows`
+abbrev pub Allows : (front key vlan : ℕ) → Header → Bool → Type 0
+Allows front key vlan h r = r ≡ allowsBy front key vlan h

@@ -1,14 +1,21 @@
-// Whether an entry matches a frame: its address, its tag choice and its VLAN.
-use crate::Fields;
+// The address, tag and VLAN test of every kind.
+//
+// An entry's kind, address and choice are its first eight octets. They come as one number, the front, and kind and address are compared
+// with what is asked at once.
 use frame::Header;
 ghost use mathlib.Core.Path.{_≡_};
-ghost use Rattle.entry.specs.Matching.{choiceAllows, allows, addressOf, Matches};
+ghost use Rattle.entry.specs.Matching.{choiceAllows, addressOf, Keys, Allows};
 
-// The kind only chooses the address.
-pub fn matches(e: Fields, h: Header) -> bool
-    ensures { λ r. ⌜ Matches e h r ⌝ }
+// Kind and address of an entry of this kind with the frame's address.
+pub fn key(kind: u8, h: Header) -> u64
+    ensures { λ r. ⌜ Keys kind h r ⌝ }
 {
-    allows(e, address_of(e.kind, h), h)
+    let address = address_of(kind, h);
+    if address < 281474976710656 {
+        kind as u64 * 281474976710656 + address
+    } else {
+        0
+    }
 }
 
 // The frame's address that the kind asks for.
@@ -18,15 +25,15 @@ fn address_of(kind: u8, h: Header) -> u64
     if kind == 2 { h.source } else { h.destination }
 }
 
-// The address, tag and VLAN test of every kind. The address comes first: it tells most entries apart.
-fn allows(e: Fields, address: u64, h: Header) -> bool
-    ensures { λ r. ⌜ r ≡ allows e address h ⌝ }
+// Kind and address come first: they tell most entries apart.
+pub fn allows(front: u64, key: u64, vlan: u16, h: Header) -> bool
+    ensures { λ r. ⌜ Allows front key vlan h r ⌝ }
 {
-    if e.address != address {
+    if front / 256 != key {
         return false;
     }
-    if choice_allows(e.choice, h.tagged, h.vlan) {
-        return e.vlan == 0 || e.vlan == h.vlan;
+    if choice_allows((front % 256) as u8, h.tagged, h.vlan) {
+        return vlan == 0 || vlan == h.vlan;
     }
     false
 }

@@ -3,7 +3,7 @@ use Prim.Native.Nat.{ℕ}
 use mathlib.Core.Path.{_≡_, sym, _∙_}
 use mathlib.Core.Bool.{Bool}
 use mathlib.Core.List.{List}
-use Rattle.octets.specs.Number.{Octet, Word16, Word32, Word48}
+use Rattle.octets.specs.Number.{Octet, Word16, Word32, Word48, Word64}
 use Rattle.octets.specs.Copy.{Puts}
 use Rattle.octets.specs.Part.{HandedBack}
 
@@ -23,6 +23,9 @@ module _ (o : List ℕ) (at : ℕ) {r r′ : ℕ} where
 
   pub word48-one : Word48 o at r → Word48 o at r′ → r ≡ r′
   word48-one = one
+
+  pub word64-one : Word64 o at r → Word64 o at r′ → r ≡ r′
+  word64-one = one
 
 pub puts-one : {src out : List ℕ} {r r′ : Bool} {l l′ : List ℕ} → Puts src out r l → Puts src out r′ l′ → (r ≡ r′) × (l ≡ l′)
 puts-one p q = (one (p .answer) (q .answer), one (p .buffer) (q .buffer))

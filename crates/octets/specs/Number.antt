@@ -18,6 +18,11 @@ unfoldable pub be48 : List ℕ → ℕ → ℕ
 unfolding be16 be32
 be48 o at = be16 o at * 4294967296 + be32 o (at + 2)
 
+-- of the eight octets
+unfoldable pub be64 : List ℕ → ℕ → ℕ
+unfolding be16 be32
+be64 o at = be32 o at * 4294967296 + be32 o (at + 4)
+
 -- the promises: of `octet`
 abbrev pub Octet : List ℕ → ℕ → ℕ → Type 0
 Octet o at r = r ≡ getD o at 0
@@ -33,3 +38,7 @@ Word32 o at r = r ≡ be32 o at
 -- of `word48`
 abbrev pub Word48 : List ℕ → ℕ → ℕ → Type 0
 Word48 o at r = r ≡ be48 o at
+
+-- of `word64`
+abbrev pub Word64 : List ℕ → ℕ → ℕ → Type 0
+Word64 o at r = r ≡ be64 o at

@@ -9,3 +9,4 @@ pub use number::octet;
 pub use number::word16;
 pub use number::word32;
 pub use number::word48;
+pub use number::word64;

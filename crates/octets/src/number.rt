@@ -4,7 +4,7 @@
 ghost use mathlib.Core.Path.{_≡_};
 ghost use Prim.Native.Nat.{_+_, _<_};
 ghost use lib.ListN.{length};
-ghost use Rattle.octets.specs.Number.{be16, be32, Octet, Word16, Word32, Word48};
+ghost use Rattle.octets.specs.Number.{be16, be32, be64, Octet, Word16, Word32, Word48, Word64};
 
 // The octet at a place.
 pub fn octet(s: &[u8], at: usize) -> u8
@@ -44,10 +44,23 @@ pub fn word48(s: &[u8], at: usize) -> u64
     ensures { λ r. ⌜ Word48 (now (s .entry)) at r ⌝ }
 {
     if at < s.len() {
-        if 5 < s.len() - at {
-            return whole16(s, at) as u64 * 4294967296 + whole32(s, at + 2) as u64;
+        if 7 < s.len() - at {
+            return whole64(s, at) / 65536;
         }
         return word16(s, at) as u64 * 4294967296 + word32(s, at + 2) as u64;
+    }
+    0
+}
+
+// The eight octets from a place on: the front of an entry.
+pub fn word64(s: &[u8], at: usize) -> u64
+    ensures { λ r. ⌜ Word64 (now (s .entry)) at r ⌝ }
+{
+    if at < s.len() {
+        if 7 < s.len() - at {
+            return whole64(s, at);
+        }
+        return word32(s, at) as u64 * 4294967296 + word32(s, at + 4) as u64;
     }
     0
 }
@@ -60,10 +73,18 @@ fn whole16(s: &[u8], at: usize) -> u16
     s[at] as u16 * 256 + s[at + 1] as u16
 }
 
-// Four octets that are there.
+// Four octets that are there. As one sum of octets they are one load to the compiler; as a sum of two numbers they are four.
 fn whole32(s: &[u8], at: usize) -> u32
     requires { ⌜ at + 3 < length (now s) ⌝ }
     ensures { λ r. ⌜ r ≡ be32 (now (s .entry)) at ⌝ }
 {
-    whole16(s, at) as u32 * 65536 + whole16(s, at + 2) as u32
+    s[at] as u32 * 16777216 + s[at + 1] as u32 * 65536 + s[at + 2] as u32 * 256 + s[at + 3] as u32
+}
+
+// Eight octets that are there.
+fn whole64(s: &[u8], at: usize) -> u64
+    requires { ⌜ at + 7 < length (now s) ⌝ }
+    ensures { λ r. ⌜ r ≡ be64 (now (s .entry)) at ⌝ }
+{
+    whole32(s, at) as u64 * 4294967296 + whole32(s, at + 4) as u64
 }

@@ -1,22 +1,21 @@
--- The walk over a table, entry by entry: what is known at a place, and what the checks of the entry there decide. Assumes nothing.
+-- The walk over a table, entry by entry: what the checks of the entry at a place decide, and what it gives. Assumes nothing.
 use Prim.Native.Nat.{ℕ, zero, suc, _+_, _-_, _≤_, _<_}
 use native.Mathlib.Omega.{arith}
 use mathlib.Core.Path.{_≡_, refl, sym, _∙_, ap}
-use mathlib.Core.Bool.{Bool, true, false, cond}
+use mathlib.Core.Bool.{true, false, cond}
 use mathlib.Core.List.{List, [], _∷_}
-use lib.ListN.{length, getD, take, drop, length-drop, drop-of-length-le}
+use lib.ListN.{length, getD, take, drop, length-take, length-drop, drop-of-length-le}
 use lib.Seq.{drop-cons, drop-drop, take-all, length-take-le}
-use borrow.Author.Tests.{lt-ltb, le-ltb, le-leb, lt-leb, eq-eqb, ne-eqb}
-use Rattle.octets.specs.Checks.{good, refuse, verdict, _then_}
+use borrow.Author.Tests.{lt-ltb, le-ltb, ltb-false, le-leb, lt-leb, leb-false, eq-eqb, ne-eqb, eqb-false}
+use Rattle.octets.specs.Checks.{Verdict, good, refuse, verdict, _then_}
 use Rattle.octets.proofs.Bools.{by-cases}
-use Rattle.octets.proofs.Order.{verdict-append}
+use Rattle.octets.proofs.Order.{verdict-append, clear, both-good}
 use Rattle.frame.specs.declared.Header.{Header}
-use Rattle.entry.specs.declared.Fields.{Fields}
 use Rattle.streams.specs.declared.Found.{Found}
-use Rattle.streams.specs.declared.Found.the-variants.{Stream, NoStream, Refused}
-use Rattle.entry.specs.Contents.{bodyLength, fields, outOfRange}
+use Rattle.streams.specs.declared.Found.the-variants.{Stream, NoStream}
+use Rattle.entry.specs.Contents.{kind, bodyLength, handle, unfit}
 use Rattle.entry.specs.Matching.{matches}
-use Rattle.streams.specs.Table.{entriesAfter, entries, entryChecks, tableChecks, tableVerdict, firstMatch, walked, _orElse_, alone}
+use Rattle.streams.specs.Table.{entriesAfter, entries, entryChecks, tableChecks, firstMatch, verdictFrom}
 
 -- octets that belong to the entry before are passed over
 entries-after : (left : ℕ) (t : List ℕ) → entriesAfter left t ≡ entries (drop left t)
@@ -31,107 +30,100 @@ entries-cons kind t = ap (λ (es : List (List ℕ)). (kind ∷ take (bodyLength 
 
 -- the octets of an entry that stands at a place, with a body of that length
 abbrev pub entryAt : List ℕ → ℕ → ℕ → List ℕ
-entryAt t at body = take (at + 1 + body - at) (drop at t)
+entryAt t at body = take (suc body) (drop at t)
 
--- "The first match" of the earlier entries, and where there is none of the later ones
-orElse-assoc : (a b c : Found) → a orElse (b orElse c) ≡ (a orElse b) orElse c
-unfolding _orElse_
-orElse-assoc NoStream b c = refl
-orElse-assoc (Stream s) b c = refl
-orElse-assoc (Refused n) b c = refl
+module _ (t : List ℕ) (passed at : ℕ) where
+  -- behind the last entry
+  pub none-left : length t ≤ at → verdictFrom t passed at ≡ good
+  unfolding verdictFrom entries entriesAfter tableChecks verdict
+  none-left past = simp (drop-of-length-le t past)
 
-pub orElse-none : (a : Found) → a ≡ a orElse NoStream
-unfolding _orElse_
-orElse-none NoStream = refl
-orElse-none (Stream s) = refl
-orElse-none (Refused n) = refl
-
-first-cons : (e : List ℕ) (es : List (List ℕ)) (h : Header) → firstMatch (e ∷ es) h ≡ alone (fields e) h orElse firstMatch es h
-unfolding firstMatch alone _orElse_
-first-cons e es h = by-cases (matches (fields e) h) (λ m. rw m refl) (λ m. rw m refl)
-
--- the entries before a place are checked, and `found` is what they gave: the checks from there on decide, and the matches from there on add
-pub record Passed (t : List ℕ) (h : Header) (found : Found) (passed at : ℕ) : Type 0 where
-  pub checked : tableVerdict t ≡ verdict (tableChecks passed (entries (drop at t)))
-  pub matched : firstMatch (entries t) h ≡ found orElse firstMatch (entries (drop at t)) h
-
-pub at-the-start : (t : List ℕ) (h : Header) → Passed t h NoStream 0 0
-unfolding tableVerdict _orElse_
-at-the-start t h = record { checked = refl; matched = refl }
-
-module _ {t : List ℕ} {h : Header} {found : Found} {passed at : ℕ} (p : Passed t h found passed at) where
-  pub at-the-end : length t ≤ at → found ≡ walked t h
-  unfolding walked entries entriesAfter tableChecks verdict firstMatch
-  at-the-end past =
-      let none = drop-of-length-le t past in
-      orElse-none found ∙ sym (simp (p .checked, p .matched, none))
+  pub none-matches : (h : Header) (p : List ℕ) → length t ≤ at → firstMatch (entries (drop at t)) h p ≡ NoStream
+  unfolding entries entriesAfter firstMatch
+  none-matches h p past = simp (drop-of-length-le t past)
 
   -- the entry at a place within the table
   module _ (within : at < length t) {body : ℕ} (b : body ≡ bodyLength (getD t at 0)) where
-    entries-at : entries (drop at t) ≡ entryAt t at body ∷ entries (drop (at + 1 + body) t)
+    entries-at : entries (drop at t) ≡ entryAt t at body ∷ entries (drop (at + (1 + body)) t)
     entries-at =
-        let n : at + 1 + body - at ≡ suc body = omega arith in
-        let m : at + 1 + body ≡ suc at + body = omega arith in
-        rw n (rw m (simp (drop-cons t at 0 within, entries-cons, drop-drop, b)))
+        let m : at + (1 + body) ≡ suc at + body = omega arith in
+        rw m (simp (drop-cons t at 0 within, entries-cons, drop-drop, b))
 
-    kind-at : bodyLength (fields (entryAt t at body) .kind) ≡ body
-    unfolding fields
-    kind-at =
-        let n : at + 1 + body - at ≡ suc body = omega arith in
-        rw n (rw (drop-cons t at 0 within) (sym b))
+    kind-at : bodyLength (kind (entryAt t at body)) ≡ body
+    unfolding kind
+    kind-at = rw (drop-cons t at 0 within) (sym b)
 
     -- its own checks come first, then those of the entries behind it
-    checked-at : tableVerdict t
-        ≡ verdict (entryChecks passed (entryAt t at body)) then verdict (tableChecks (passed + 1) (entries (drop (at + 1 + body) t)))
-    unfolding tableChecks
-    checked-at = p .checked ∙ simp (entries-at, verdict-append)
+    checked-at : verdictFrom t passed at ≡ verdict (entryChecks passed (entryAt t at body)) then verdictFrom t (passed + 1) (at + (1 + body))
+    unfolding verdictFrom tableChecks
+    checked-at = simp (entries-at, verdict-append)
 
-    decides : {n : ℕ} → verdict (entryChecks passed (entryAt t at body)) ≡ refuse n → Refused n ≡ walked t h
-    unfolding walked _then_
+    decides : {n : ℕ} → verdict (entryChecks passed (entryAt t at body)) ≡ refuse n → verdictFrom t passed at ≡ refuse n
+    unfolding _then_
     decides e = simp (checked-at, e)
 
-    pub too-many : 256 ≤ passed → Refused 13 ≡ walked t h
+    pub too-many : 256 ≤ passed → verdictFrom t passed at ≡ refuse 13
     unfolding entryChecks verdict
     too-many l = decides (simp (le-leb _ _ l))
 
     module _ (few : passed < 256) where
-      pub unknown : body ≡ 0 → Refused 10 ≡ walked t h
+      pub unknown : body ≡ 0 → verdictFrom t passed at ≡ refuse 10
       unfolding entryChecks verdict
       unknown z = decides (simp (lt-leb _ _ few, kind-at, eq-eqb _ _ z))
 
       module _ (known : body ≡ 0 → ⊥) where
-        pub cut : length t - at ≤ body → Refused 11 ≡ walked t h
+        pub cut : length t - at < 1 + body → verdictFrom t passed at ≡ refuse 11
         unfolding entryChecks verdict
         cut l =
-            let all = take-all (at + 1 + body - at) (drop at t) (omega (arith, length-drop at t)) in
+            let all = take-all (suc body) (drop at t) (omega (arith, length-drop at t)) in
             let short = lt-ltb (length (entryAt t at body)) (1 + body) (rw all (omega (arith, length-drop at t))) in
             decides (simp (lt-leb _ _ few, kind-at, ne-eqb _ _ known, short))
 
--- an entry that is within the table, one of the first 256, of a known kind, and whole
-pub record Whole (t : List ℕ) (passed at body : ℕ) : Type 0 where
-  pub within : at < length t
-  pub kind : body ≡ bodyLength (getD t at 0)
-  pub few : passed < 256
-  pub known : body ≡ 0 → ⊥
-  pub whole : body < length t - at
+        -- all of it is there
+        module _ (whole : 1 + body ≤ length t - at) where
+          long : length (entryAt t at body) ≡ suc body
+          long = length-take-le (suc body) (drop at t) (omega (arith, length-drop at t))
 
-module _ {t : List ℕ} {h : Header} {found : Found} {passed at body : ℕ} (p : Passed t h found passed at) (w : Whole t passed at body) where
-  module _ {e : Fields} (f : e ≡ fields (entryAt t at body)) where
-    comes-to : (bad : Bool) → outOfRange (e .choice) (e .vlan) ≡ bad
-        → verdict (entryChecks passed (entryAt t at body)) ≡ cond bad (refuse 12) good
-    unfolding entryChecks verdict
-    comes-to bad r =
-        let n = length-take-le (at + 1 + body - at) (drop at t) (omega (arith, length-drop at t)) in
-        let long = le-ltb (length (entryAt t at body)) (1 + body) (omega (arith, n)) in
-        simp (lt-leb _ _ (w .few), kind-at p (w .within) (w .kind), ne-eqb _ _ (w .known), long, ← f, r)
+          pub ranged : unfit (entryAt t at body) ≡ true → verdictFrom t passed at ≡ refuse 12
+          unfolding entryChecks verdict
+          ranged r =
+              decides (simp (lt-leb _ _ few, kind-at, ne-eqb _ _ known, le-ltb (length (entryAt t at body)) (1 + body) (omega (arith, long)), r))
 
-    pub ranged : outOfRange (e .choice) (e .vlan) ≡ true → Refused 12 ≡ walked t h
-    ranged r = decides p (w .within) (w .kind) (comes-to true r)
+          pub passes : unfit (entryAt t at body) ≡ false → verdictFrom t passed at ≡ verdictFrom t (passed + 1) (at + (1 + body))
+          unfolding entryChecks verdict _then_
+          passes r =
+              checked-at
+              ∙ simp (lt-leb _ _ few, kind-at, ne-eqb _ _ known, le-ltb (length (entryAt t at body)) (1 + body) (omega (arith, long)), r)
 
-    pub goes-on : outOfRange (e .choice) (e .vlan) ≡ false → Passed t h (found orElse alone e h) (passed + 1) (at + 1 + body)
-    unfolding _then_
-    goes-on r =
-        record {
-          checked = checked-at p (w .within) (w .kind) ∙ simp (comes-to false r);
-          matched = p .matched ∙ simp (entries-at p (w .within) (w .kind), first-cons, orElse-assoc, f);
-        }
+    -- what it gives, and where it gives nothing what those behind it give
+    module _ (h : Header) (p : List ℕ) where
+      pub match-at : matches (entryAt t at body) h p ≡ true → firstMatch (entries (drop at t)) h p ≡ Stream (handle (entryAt t at body))
+      unfolding firstMatch
+      match-at m = simp (entries-at, m)
+
+      pub no-match-at : matches (entryAt t at body) h p ≡ false
+          → firstMatch (entries (drop at t)) h p ≡ firstMatch (entries (drop (at + (1 + body)) t)) h p
+      unfolding firstMatch
+      no-match-at m = simp (entries-at, m)
+
+    -- what a good verdict tells of it
+    good-at : verdictFrom t passed at ≡ good → verdict (entryChecks passed (entryAt t at body)) ≡ good
+    good-at g = both-good _ _ (sym checked-at ∙ g) .0
+
+    pub good-few : verdictFrom t passed at ≡ good → passed < 256
+    unfolding entryChecks
+    good-few g = leb-false 256 passed (clear _ _ _ (good-at g) .0)
+
+    pub good-known : verdictFrom t passed at ≡ good → body ≡ 0 → ⊥
+    unfolding entryChecks
+    good-known g z = eqb-false _ _ (clear _ _ _ (clear _ _ _ (good-at g) .1) .0) (kind-at ∙ z)
+
+    pub good-whole : verdictFrom t passed at ≡ good → 1 + body ≤ length t - at
+    unfolding entryChecks
+    good-whole g =
+        let whole = ltb-false (length (entryAt t at body)) (1 + bodyLength (kind (entryAt t at body))) (clear _ _ _ (clear _ _ _ (clear _ _ _ (good-at g) .1) .1) .0) in
+        omega (arith, whole, kind-at, length-take (suc body) (drop at t), length-drop at t)
+
+    pub good-fit : verdictFrom t passed at ≡ good → unfit (entryAt t at body) ≡ false
+    unfolding entryChecks
+    good-fit g = clear _ _ _ (clear _ _ _ (clear _ _ _ (clear _ _ _ (good-at g) .1) .1) .1) .0

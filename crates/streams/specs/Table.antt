@@ -1,20 +1,20 @@
 -- A stream table (document 01, "Stream tables"): octets cut into entries, the checks of each in document 01's order, and what a lookup
 -- finds. Assumes nothing.
-use Prim.Native.Nat.{ℕ, zero, suc, _+_}
+use Prim.Native.Nat.{ℕ, zero, suc, _+_, _-_, _≤_}
 use mathlib.Core.Path.{_≡_}
 use mathlib.Core.Bool.{cond}
 use mathlib.Core.List.{List, [], _∷_, _++_}
-use lib.ListN.{length, take}
+use lib.ListN.{length, take, drop}
 use lib.Dec.{leb, ltb, eqb}
+use Rattle.octets.specs.Number.{be64}
 use Rattle.octets.specs.Checks.{Check, _⇒_, Verdict, good, refuse, verdict, _then_}
 use Rattle.frame.specs.declared.Header.{Header}
 use Rattle.frame.specs.Reader.{checks, header}
-use Rattle.entry.specs.declared.Fields.{Fields}
 use Rattle.streams.specs.declared.Checked.{Checked}
 use Rattle.streams.specs.declared.Checked.the-variants as Checked
 use Rattle.streams.specs.declared.Found.{Found}
 use Rattle.streams.specs.declared.Found.the-variants.{Stream, NoStream, Refused}
-use Rattle.entry.specs.Contents.{bodyLength, fields, outOfRange}
+use Rattle.entry.specs.Contents.{kind, bodyLength, handle, unfit}
 use Rattle.entry.specs.Matching.{matches}
 
 -- "one byte of kind, then a body whose length the kind fixes": the entries of octets whose first `left` ones still belong to the entry
@@ -28,13 +28,14 @@ entriesAfter zero (kind ∷ t) = (kind ∷ take (bodyLength kind) t) ∷ entries
 unfoldable pub entries : List ℕ → List (List ℕ)
 entries t = entriesAfter 0 t
 
--- "each entry: 13, 10, 11, 12": "257th entry", of "At most 256 entries"; "entry kind"; "cut"; "choice or VLAN out of range"
+-- "each entry: 13, 10, 11, 12": "257th entry", of "At most 256 entries"; "entry kind"; "cut"; "choice or VLAN out of range",
+-- and "Refusal 12 covers the new ranges" (document 02, CR 1)
 unfoldable pub entryChecks : (before : ℕ) → List ℕ → List Check
 entryChecks before e =
     leb 256 before ⇒ 13
-    ∷ eqb (bodyLength (fields e .kind)) 0 ⇒ 10
-    ∷ ltb (length e) (1 + bodyLength (fields e .kind)) ⇒ 11
-    ∷ outOfRange (fields e .choice) (fields e .vlan) ⇒ 12
+    ∷ eqb (bodyLength (kind e)) 0 ⇒ 10
+    ∷ ltb (length e) (1 + bodyLength (kind e)) ⇒ 11
+    ∷ unfit e ⇒ 12
     ∷ []
 
 -- "The whole table is checked first, in order"; so many entries stand before the first of these
@@ -46,10 +47,10 @@ tableChecks before (e ∷ es) = entryChecks before e ++ tableChecks (before + 1)
 unfoldable pub tableVerdict : List ℕ → Verdict
 tableVerdict t = verdict (tableChecks 0 (entries t))
 
--- "The first match gives the handle. No match is the answer "no stream""
-unfoldable pub firstMatch : List (List ℕ) → Header → Found
-firstMatch [] h = NoStream
-firstMatch (e ∷ es) h = cond (matches (fields e) h) (Stream (fields e .handle)) (firstMatch es h)
+-- "The first match gives the handle. No match is the answer "no stream"", for a frame with this header and payload
+unfoldable pub firstMatch : List (List ℕ) → Header → List ℕ → Found
+firstMatch [] h p = NoStream
+firstMatch (e ∷ es) h p = cond (matches e h p) (Stream (handle e)) (firstMatch es h p)
 
 -- what is found where the verdict is good; a refusal "returns the number alone"
 abbrev pub foundBy : Verdict → Found → Found
@@ -58,27 +59,28 @@ foundBy (refuse n) found = Refused n
 
 -- "The whole table is checked first" .. "Then the frame", as reading refuses it
 unfoldable pub lookupOf : List ℕ → List ℕ → Found
-lookupOf t o = foundBy (tableVerdict t then verdict (checks o)) (firstMatch (entries t) (header o))
+lookupOf t o = foundBy (tableVerdict t then verdict (checks o)) (firstMatch (entries t) (header o) (drop (header o .payload) o))
 
 -- a check's answer to a verdict
 abbrev pub checkedBy : Verdict → Checked
 checkedBy good = Checked.Good
 checkedBy (refuse n) = Checked.Refused n
 
--- what the inner functions promise their callers. `walk`: what a walk over a whole table finds, its refusal or else the first match
-unfoldable pub walked : List ℕ → Header → Found
-walked t h = foundBy (tableVerdict t) (firstMatch (entries t) h)
+-- what the inner functions promise their callers. `checked` and `settled`: the verdict on the entries from a place on, with so many before
+unfoldable pub verdictFrom : List ℕ → (before at : ℕ) → Verdict
+verdictFrom t before at = verdict (tableChecks before (entries (drop at t)))
 
-infixr 30 _orElse_
--- `first`: what was found earlier, and where that is nothing what is found later
-unfoldable pub _orElse_ : Found → Found → Found
-NoStream orElse later = later
-Stream handle orElse later = Stream handle
-Refused n orElse later = Refused n
+-- `walk`: what a walk over a whole table finds, its refusal or else the first match
+unfoldable pub walked : List ℕ → Header → List ℕ → Found
+walked t h p = foundBy (tableVerdict t) (firstMatch (entries t) h p)
 
--- `past_entry`: what one entry gives
-unfoldable pub alone : Fields → Header → Found
-alone e h = cond (matches e h) (Stream (e .handle)) NoStream
+-- what it asks of them: the payload starts within the frame
+abbrev pub InFrame : List ℕ → Header → Type 0
+InFrame o h = h .payload ≤ length o
+
+-- `front_at`: the first eight octets of an entry as one number, where there is room for the shortest one
+unfoldable pub frontAt : List ℕ → ℕ → ℕ
+frontAt t at = cond (ltb (length t - at) 12) 0 (be64 t at)
 
 -- the promises: of `check`
 abbrev pub ChecksTable : List ℕ → Checked → Type 0

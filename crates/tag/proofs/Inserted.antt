@@ -99,6 +99,10 @@ module _ (e : Encoding) (o : List ℕ) (n id room : ℕ) (accepted : verdict (in
   unfolding inserted at
   splice = inserting o (six e n id (sizeOf o)) at (six-long e n id (sizeOf o)) within
 
+  pub spliced : Spliced o (inserted e o n id) (place e (tagPlace o) (length o))
+  unfolding at
+  spliced = splice
+
   -- the words that were put in
   word-put : (k : ℕ) → k + 1 < 6 → be16 (inserted e o n id) (at + k) ≡ be16 (six e n id size) k
   unfolding inserted at size

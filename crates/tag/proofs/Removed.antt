@@ -61,7 +61,7 @@ module _ (e : Encoding) (o : List ℕ) (room : ℕ) (accepted : verdict (removeC
   six-within : standing e o + 6 ≤ length o
   six-within = standing-within e o (rem .reads) (rem .carried)
 
-  unsplice : Spliced (removed e o) o (standing e o)
+  pub unsplice : Spliced (removed e o) o (standing e o)
   unfolding removed
   unsplice = removing o (standing e o) six-within
 
@@ -71,7 +71,7 @@ module _ (e : Encoding) (o : List ℕ) (room : ℕ) (accepted : verdict (removeC
     unfolding standing place
     standing-front = rw f
 
-    there : sequenced o ≡ true
+    pub there : sequenced o ≡ true
     there = carried-sequenced e o f (rem .carried)
 
     behind : (tagPlace o + 6 + 2 ≤ length o) × (be16 o (tagPlace o + 6) ≡ C-TAG → ⊥) × (announces (be16 o (tagPlace o + 6)) ≡ false)

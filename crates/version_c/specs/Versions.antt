@@ -7,7 +7,7 @@ abbrev pub major : ℕ
 major = 5
 
 abbrev pub minor : ℕ
-minor = 0
+minor = 1
 
 -- the promise of `ahz_version`
 abbrev pub Tells : ℕ → Type 0

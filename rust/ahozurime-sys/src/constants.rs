@@ -3,7 +3,7 @@
 /// Goes up where a program written for an older header could go wrong.
 pub const AHZ_VERSION_MAJOR: u32 = 5;
 /// Goes up where something is only added.
-pub const AHZ_VERSION_MINOR: u32 = 0;
+pub const AHZ_VERSION_MINOR: u32 = 1;
 /// The version that this package is written for; [`ahz_version`](crate::ahz_version) answers that of
 /// the archive.
 pub const AHZ_VERSION: u32 = AHZ_VERSION_MAJOR * 65_536 + AHZ_VERSION_MINOR;
@@ -43,7 +43,7 @@ pub const AHZ_R_NO_TAG: u8 = 9;
 pub const AHZ_R_ENTRY_KIND: u8 = 10;
 /// Table: the octets end inside an entry.
 pub const AHZ_R_ENTRY_CUT: u8 = 11;
-/// Table: an entry's choice or VLAN is out of range.
+/// Table: an entry's choice or VLAN is out of range, or in kind 4 its DSCP or next protocol.
 pub const AHZ_R_ENTRY_RANGE: u8 = 12;
 /// Table: a 257th entry.
 pub const AHZ_R_ENTRY_257: u8 = 13;
@@ -140,6 +140,8 @@ pub const AHZ_TYPE_CTAG: u16 = 0x8100;
 pub const AHZ_TYPE_RTAG: u16 = 0xF1C1;
 /// What an HSR tag begins with.
 pub const AHZ_TYPE_HSR: u16 = 0x892F;
+/// No tag: the last type of a frame that an entry of kind 4 can match.
+pub const AHZ_TYPE_IP: u16 = 0x0800;
 /// What a PRP trailer ends with.
 pub const AHZ_SUFFIX_PRP: u16 = 0x88FB;
 /// The last VLAN id; 4,095 is refused, in a frame and in a table.
@@ -188,6 +190,8 @@ pub const AHZ_FCS_LONGEST: usize = 1_526;
 pub const AHZ_KIND_DESTINATION: u8 = 1;
 /// An entry by the frame's source.
 pub const AHZ_KIND_SOURCE: u8 = 2;
+/// An entry by the frame's destination and its IPv4 header.
+pub const AHZ_KIND_IP: u8 = 4;
 /// The choice of a frame with a C-TAG.
 pub const AHZ_CHOICE_TAGGED: u8 = 1;
 /// The choice of a frame without one, or with VLAN id 0.
@@ -196,12 +200,30 @@ pub const AHZ_CHOICE_PRIORITY: u8 = 2;
 pub const AHZ_CHOICE_ALL: u8 = 3;
 /// The VLAN of an entry for every VLAN.
 pub const AHZ_VLAN_ANY: u16 = 0;
-/// Octets of an entry.
+/// The source or destination IP of an entry for every address.
+pub const AHZ_IP_ANY: u32 = 0;
+/// The last DSCP.
+pub const AHZ_DSCP_LAST: u8 = 63;
+/// The DSCP of an entry for every DSCP.
+pub const AHZ_DSCP_ANY: u8 = 255;
+/// The next protocol of an entry for every protocol and all ports.
+pub const AHZ_PROTOCOL_NONE: u8 = 1;
+/// The next protocol UDP, 17 in an IP header.
+pub const AHZ_PROTOCOL_UDP: u8 = 2;
+/// The next protocol TCP, 6 in an IP header.
+pub const AHZ_PROTOCOL_TCP: u8 = 3;
+/// The next protocol SCTP, 132 in an IP header.
+pub const AHZ_PROTOCOL_SCTP: u8 = 4;
+/// The source or destination port of an entry for every port.
+pub const AHZ_PORT_ANY: u16 = 0;
+/// Octets of an entry of kind 1 or 2.
 pub const AHZ_ENTRY_OCTETS: usize = 12;
+/// Octets of an entry of kind 4.
+pub const AHZ_IP_ENTRY_OCTETS: usize = 26;
 /// Entries of the longest table.
 pub const AHZ_TABLE_ENTRIES: usize = 256;
-/// Octets of the longest table.
-pub const AHZ_TABLE_LONGEST: usize = 3_072;
+/// Octets of the longest table, all of whose entries are of kind 4.
+pub const AHZ_TABLE_LONGEST: usize = 6_656;
 
 // ---- The numbers of a setup ----
 

@@ -6,7 +6,8 @@
 //!
 //! A call whose name ends in `_v2`, `_v3` or `_v4` took or wrote something else before that version. So an
 //! older archive is not linked and then misread: it does not have all of these names. From 4 to 5 no name
-//! was changed, and an archive of version 4 takes no 892F for a tag: [`ahz_version`] tells.
+//! was changed, and an archive of version 4 takes no 892F for a tag; nor since, and one of 5.0 refuses
+//! table kind 4: [`ahz_version`] tells.
 //!
 //! A call goes by the encoding that its name ends in, `_hsr` or `_prp`, and by the R-TAG where there is no
 //! such ending. Either tag, R-TAG or HSR tag, is one to every call, but its number only to those of its

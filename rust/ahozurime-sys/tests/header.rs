@@ -217,9 +217,9 @@ fn type_of(constant: &str) -> &'static str {
     let ends = |with: &[&str]| with.iter().any(|end| name.ends_with(end));
     if begins(&["S_", "H_"]) || ends(&LENGTHS) {
         "usize" // places and lengths
-    } else if begins(&["TYPE_", "SUFFIX_", "VLAN_", "HISTORY_", "RATE_"]) {
+    } else if begins(&["TYPE_", "SUFFIX_", "VLAN_", "PORT_", "HISTORY_", "RATE_"]) {
         "u16"
-    } else if begins(&["VERSION", "MILLISECONDS_"]) {
+    } else if begins(&["VERSION", "IP_", "MILLISECONDS_"]) {
         "u32"
     } else if name == "STATE_FORMAT" {
         "u64" // what a word of a state holds

@@ -48,7 +48,7 @@ refusals! {
     9 NO_TAG "removal from a frame without a number in the stream's encoding"
     10 ENTRY_KIND "table entry of no known kind"
     11 ENTRY_CUT "octets end inside a table entry"
-    12 ENTRY_RANGE "choice or VLAN of a table entry out of range"
+    12 ENTRY_RANGE "choice, VLAN, DSCP or next protocol of a table entry out of range"
     13 ENTRY_257 "257th table entry"
     14 STATE "no state of this format, or one that is not sound"
     15 RULE "rule not 0 or 1"

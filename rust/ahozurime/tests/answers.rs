@@ -84,9 +84,9 @@ fn a_refusal_is_shown_with_its_sentence() {
 }
 
 #[test]
-fn the_version_is_five_point_zero() {
-    assert_eq!(version(), Version { major: 5, minor: 0 });
-    assert_eq!(Version::OF_THIS_PACKAGE, Version { major: 5, minor: 0 });
+fn the_version_is_five_point_one() {
+    assert_eq!(version(), Version { major: 5, minor: 1 });
+    assert_eq!(Version::OF_THIS_PACKAGE, Version { major: 5, minor: 1 });
 }
 
 #[test]
@@ -106,11 +106,15 @@ fn constants_are_those_of_the_paper() {
     assert_eq!((frame::RTAG_OCTETS, frame::VLAN_LAST), (6, 4_094));
     assert_eq!((frame::HSR_OCTETS, frame::PRP_OCTETS, frame::PATH_ID_LAST), (6, 6, 15));
     assert_eq!((fcs::OCTETS, fcs::SHORTEST, fcs::LONGEST), (4, 18, 1_526));
-    assert_eq!((streams::KIND_DESTINATION, streams::KIND_SOURCE), (1, 2));
+    assert_eq!((streams::KIND_DESTINATION, streams::KIND_SOURCE, streams::KIND_IP), (1, 2, 4));
     let choices = (streams::CHOICE_TAGGED, streams::CHOICE_PRIORITY, streams::CHOICE_ALL);
     assert_eq!(choices, (1, 2, 3));
-    assert_eq!(streams::VLAN_ANY, 0);
-    assert_eq!((streams::ENTRY_OCTETS, streams::ENTRIES, streams::LONGEST), (12, 256, 3_072));
+    assert_eq!((streams::VLAN_ANY, streams::IP_ANY, streams::PORT_ANY), (0, 0, 0));
+    assert_eq!((streams::DSCP_LAST, streams::DSCP_ANY), (63, 255));
+    assert_eq!((streams::PROTOCOL_NONE, streams::PROTOCOL_UDP), (1, 2));
+    assert_eq!((streams::PROTOCOL_TCP, streams::PROTOCOL_SCTP), (3, 4));
+    assert_eq!((streams::ENTRY_OCTETS, streams::IP_ENTRY_OCTETS), (12, 26));
+    assert_eq!((streams::ENTRIES, streams::LONGEST), (256, 256 * 26));
     assert_eq!(Setup::HISTORY, 2..=512);
     assert_eq!(Setup::TIMEOUT, Milliseconds(1)..=Milliseconds(3_600_000));
     assert_eq!(Setup::RATE, TicksPerSecond(1)..=TicksPerSecond(10_000));

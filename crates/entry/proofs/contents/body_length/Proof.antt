@@ -14,10 +14,15 @@ returns-2 : tie.Need-returns-2
 unfolding bodyLength
 returns-2 c = simp (c .match .keys2)
 
--- an octet that is no kind
+-- kind 4
 returns-3 : tie.Need-returns-3
 unfolding bodyLength
-returns-3 c = simp (ne-eqb _ _ (c .match .rest .1), ne-eqb _ _ (c .match .rest .0 .1))
+returns-3 c = simp (c .match .keys3)
+
+-- an octet that is no kind
+returns-4 : tie.Need-returns-4
+unfolding bodyLength
+returns-4 c = simp (ne-eqb _ _ (c .match .rest .1), ne-eqb _ _ (c .match .rest .0 .1), ne-eqb _ _ (c .match .rest .0 .0 .1))
 
 pub body-length-spec : {M : Type 1} → statement M
-body-length-spec = tie.close (tie.spec returns returns-2 returns-3)
+body-length-spec = tie.close (tie.spec returns returns-2 returns-3 returns-4)
