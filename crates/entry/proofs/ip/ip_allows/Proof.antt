@@ -3,14 +3,16 @@ use mathlib.Core.Path.{sym, _∙_}
 use mathlib.Core.Bool.{and-false}
 use borrow.Author.Needs.{needs}
 use borrow.Author.Tests.{eq-eqb, ne-eqb}
-use Rattle.entry.specs.Ip.{ipAllows}
+use Rattle.entry.specs.Ip.{IPv4, ipAllows}
 use Rattle.entry.proofs.ip.ip_allows.Statement.{statement}
 use Rattle.entry.proofs.ip.ip_allows.Tie as tie
 
 -- a whole header behind another type
 returns : tie.Need-returns
 unfolding ipAllows
-returns c = simp (ne-eqb _ _ (c .if1 .taken))
+returns c =
+    let read = c .before .before .before .before in
+    simp (ne-eqb (read .before .before .before .args .kind) IPv4 (c .if1 .taken))
 
 -- and behind that of IPv4
 returns-2 : tie.Need-returns-2

@@ -120,88 +120,41 @@ returns-6 c =
 returns-7 : tie.Need-returns-7 Inv-loop μ-loop
 returns-7 c = decided (c .before .loop .inv) (none-left _ _ _ (c .loop-test .left))
 
-shared-slice-read-body-length : tie.Need-shared-slice-read-body-length Inv-loop μ-loop
-shared-slice-read-body-length c = search needs
-
-sub-if2 : tie.Need-sub-if2 Inv-loop μ-loop
-sub-if2 c = search needs
-
-add-unfit : tie.Need-add-unfit Inv-loop μ-loop
-add-unfit c = search needs
-
-sub-unfit : tie.Need-sub-unfit Inv-loop μ-loop
-sub-unfit c = search needs
-
-part-unfit-start : tie.Need-part-unfit-start Inv-loop μ-loop
-part-unfit-start c = search needs
-
-part-unfit-end : tie.Need-part-unfit-end Inv-loop μ-loop
-part-unfit-end c = search needs
-
-add-at : tie.Need-add-at Inv-loop μ-loop
-add-at c = search needs
-
-add-passed : tie.Need-add-passed Inv-loop μ-loop
-add-passed c = search needs
-
-loop-less : tie.Need-loop-less Inv-loop μ-loop
-loop-less c = search needs
-
-sub-if4 : tie.Need-sub-if4 Inv-loop μ-loop
-sub-if4 c = search needs
-
-add-unfit-2 : tie.Need-add-unfit-2 Inv-loop μ-loop
-add-unfit-2 c = search needs
-
-sub-unfit-2 : tie.Need-sub-unfit-2 Inv-loop μ-loop
-sub-unfit-2 c = search needs
-
-part-unfit-start-2 : tie.Need-part-unfit-start-2 Inv-loop μ-loop
-part-unfit-start-2 c = search needs
-
-part-unfit-end-2 : tie.Need-part-unfit-end-2 Inv-loop μ-loop
-part-unfit-end-2 c = search needs
-
-add-at-2 : tie.Need-add-at-2 Inv-loop μ-loop
-add-at-2 c = search needs
-
-add-passed-2 : tie.Need-add-passed-2 Inv-loop μ-loop
-add-passed-2 c = search needs
-
-loop-less-2 : tie.Need-loop-less-2 Inv-loop μ-loop
-loop-less-2 c = search needs
-
+-- what is left follows from what each step is handed
 pub checked-spec : {M : Type 1} → statement M
 checked-spec {M} =
     tie.close
-    (search (
-      tie.spec {M = M} Inv-loop μ-loop,
-      loop-holds,
-      returns,
-      shared-slice-read-body-length,
-      sub-if2,
-      returns-2,
-      add-unfit,
-      sub-unfit,
-      part-unfit-start,
-      part-unfit-end,
-      returns-3,
-      add-at,
-      add-passed,
-      loop-less,
-      loop-again,
-      sub-if4,
-      returns-4,
-      add-unfit-2,
-      sub-unfit-2,
-      part-unfit-start-2,
-      part-unfit-end-2,
-      returns-5,
-      add-at-2,
-      add-passed-2,
-      loop-less-2,
-      loop-again-2,
-      returns-6,
-      returns-7,
-      needs,
-    ))
+    (tie.spec
+    {M = M}
+    Inv-loop
+    μ-loop
+    loop-holds
+    returns
+    (search needs)
+    (search needs)
+    (search needs)
+    returns-2
+    (search needs)
+    (search needs)
+    (search needs)
+    (search needs)
+    (search needs)
+    returns-3
+    (search needs)
+    (search needs)
+    (search needs)
+    loop-again
+    (search needs)
+    returns-4
+    (search needs)
+    (search needs)
+    (search needs)
+    (search needs)
+    (search needs)
+    returns-5
+    (search needs)
+    (search needs)
+    (search needs)
+    loop-again-2
+    returns-6
+    returns-7)
