@@ -32,7 +32,7 @@ zeroOr asked is = eqb asked 0 || eqb asked is
 unfoldable pub dscpFits : (asked is : ℕ) → Bool
 dscpFits asked is = eqb asked 255 || eqb asked is
 
--- a port is "asked", behind a protocol that is not none, where one is not zero
+-- no port is "asked" where both are zero; behind none they are not looked at
 unfoldable pub noPort : (source destination : ℕ) → Bool
 noPort source destination = eqb source 0 && eqb destination 0
 

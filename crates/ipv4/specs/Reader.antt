@@ -27,7 +27,7 @@ headerLength p = words p * 4
 unfoldable pub dscp : List ℕ → ℕ
 dscp p = getD p 1 0 / 4
 
--- the low 13 bits of the two octets with the flags: "The later fragment is one whose offset is not 0"
+-- the low 13 bits of the two octets with the flags are the offset: a "later fragment" (CR 1) is one where it is not 0
 unfoldable pub later : List ℕ → Bool
 later p = not (eqb (be16 p 6 % 8192) 0)
 

@@ -1,6 +1,6 @@
 // Big-endian numbers in lent octets (document 01: "All numbers in octets are big-endian").
 //
-// Where all octets of a number are there they are read in one go, without a test for each.
+// Where all octets of a number are there they are read in one go, without a test for each; an address where two more follow it.
 ghost use mathlib.Core.Path.{_≡_};
 ghost use Prim.Native.Nat.{_+_, _<_};
 ghost use lib.ListN.{length};

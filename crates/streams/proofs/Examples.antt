@@ -2,7 +2,7 @@
 use Prim.Native.Nat.{ℕ, _+_}
 use mathlib.Core.Path.{_≡_, refl}
 use mathlib.Core.List.{List, [], _∷_, _++_, map}
-use lib.ListN.{take}
+use lib.ListN.{take, drop}
 use Rattle.octets.specs.Number.{be16, be32, be48}
 use Rattle.octets.specs.Checks.{verdict, _then_}
 use Rattle.frame.specs.Layout.{destination, source, tagged, vlan, tagPlace, announces, sequenced, announced}
@@ -112,7 +112,12 @@ rows =
     ∷ row (ipEntry from to 46 2 both) (packet 5 1 17 []) NoStream
     ∷ row (ipEntry from to 46 2 any) (packet 5 1 17 []) (Stream 9)
     ∷ row (ipEntry any any 255 1 any) (packet 4 0 17 []) NoStream
+    ∷ row (ipEntry any any 255 1 any) (packet 37 0 17 []) NoStream
     ∷ row (ipEntry any any 255 1 any) plain NoStream
+    ∷ row (ipEntry any any 255 1 any) (take 12 udp ++ (0x88 ∷ 0xB5 ∷ drop 14 udp)) NoStream
+    ∷ row (ipEntry from to 46 2 both) (take 37 udp) NoStream
+    ∷ row (ipEntry from to 46 2 any) (take 37 udp) (Stream 9)
+    ∷ row (ipEntry any any 255 1 any) (take 33 udp) NoStream
     ∷ row (ipEntry any any 64 1 any) udp (Refused 12)
     ∷ row (ipEntry any any 255 0 any) udp (Refused 12)
     ∷ row (ipEntry any any 255 5 any) udp (Refused 12)

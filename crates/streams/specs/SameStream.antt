@@ -3,8 +3,9 @@
 --
 -- A tag stands before the payload, and so it holds without a condition. A trailer stands in it: where the payload ends within the IP header
 -- or the ports that an entry of kind 4 asks for, the trailer's octets are read in their place (CR 1 knows no trailers, and a lookup does
--- not know the encoding, which is the stream's own). So under PRP it holds where no entry of the table is of kind 4, or the frame without
--- the trailer is no IPv4 packet, or has the octets that its header says and four more. A payload on a wire has 46 octets or more.
+-- not know the encoding, which is the stream's own). So under PRP it holds where no entry of the table is of kind 4, or the last type is not
+-- 0800, or the payload without the trailer has the octets that its header says and four more. A frame of 60 octets has 36 or more of payload
+-- behind its tags, and a header without options and its ports have 24.
 use Prim.Native.Nat.{ℕ, _+_}
 use mathlib.Core.Path.{_≡_}
 use mathlib.Core.Bool.{Bool, true, not, _&&_, _||_}
@@ -28,7 +29,7 @@ unfoldable pub noneIp : List (List ℕ) → Bool
 noneIp [] = true
 noneIp (e ∷ es) = not (eqb (kind e) IP) && noneIp es
 
--- a payload behind that type is no IPv4 packet, or has the octets that its header says and those of the ports
+-- the type is not that of IPv4, or the payload behind it has the octets that its header says and those of the ports
 unfoldable pub uncut : (type : ℕ) → List ℕ → Bool
 uncut type p = not (eqb type IPv4) || leb (headerLength p + 4) (length p)
 

@@ -1,16 +1,17 @@
 -- `streams::table::checked` meets its promise: each check of an entry decides, and a good entry is passed. Assumes nothing.
-use Prim.Native.Nat.{ℕ, _+_, _-_}
+use Prim.Native.Nat.{ℕ, _+_, _-_, _≤_, _<_}
 use native.Mathlib.Omega.{arith}
 use mathlib.Core.Path.{_≡_, refl, sym, ap, _∙_}
-use mathlib.Core.Bool.{Bool}
+use mathlib.Core.Bool.{Bool, true, false}
 use mathlib.Core.List.{List}
 use lib.ListN.{length, take, drop}
 use borrow.Author.Needs.{needs}
 use Rattle.octets.specs.Checks.{Verdict}
 use Rattle.entry.specs.Contents.{unfit}
+use Rattle.streams.specs.declared.Checked.the-variants as Checked
 use Rattle.streams.specs.Table.{checkedBy, verdictFrom}
 use Rattle.streams.proofs.Bodies.{no-other}
-use Rattle.streams.proofs.Walked.{none-left, too-many, unknown, cut, ranged, passes}
+use Rattle.streams.proofs.Walked.{entryAt, none-left, too-many, unknown, cut, ranged, passes}
 use Rattle.streams.proofs.table.checked.Statement.{statement}
 use Rattle.streams.proofs.table.checked.Tie as tie
 
@@ -48,65 +49,67 @@ place c = turn c .before .loop .at
 returns : tie.Need-returns Inv-loop μ-loop
 returns c = let turn = c .before in decided (turn .before .loop .inv) (too-many _ _ _ (turn .loop-test .taken) refl (omega arith))
 
--- a cut entry of kind 1 or 2
-returns-2 : tie.Need-returns-2 Inv-loop μ-loop
-returns-2 c =
-    let arm = c .before in
-    let at-body = arm .before in
-    decided (turn at-body .before .loop .inv)
-    (cut _ _ _ (turn at-body .loop-test .taken) (sym (arm .match .keys1) ∙ at-body .body-length .ensures) (omega arith) (λ z. omega arith) (c .if2 .taken))
+-- an entry with a body of that length: cut, out of range, and passed
+module _ (c : tie.After-body-length Inv-loop μ-loop) (body : ℕ) (b : c .body-length .result ≡ body) (some : 11 ≤ body) where
+  abbrev all : Verdict
+  all = let start = turn c .before .before .before .args in verdictFrom (start .table .now) (start .count) (start .from)
 
--- one out of range
+  entry-cut : length (table c) - place c < 1 + body → Checked.Refused 11 ≡ checkedBy all
+  entry-cut l =
+      decided (turn c .before .loop .inv)
+      (cut _ _ _ (turn c .loop-test .taken) (sym b ∙ c .body-length .ensures) (omega arith) (λ z. omega arith) l)
+
+  module _ (whole : 1 + body ≤ length (table c) - place c) where
+    entry-ranged : unfit (entryAt (table c) (place c) body) ≡ true → Checked.Refused 12 ≡ checkedBy all
+    entry-ranged u =
+        decided (turn c .before .loop .inv)
+        (ranged _ _ _ (turn c .loop-test .taken) (sym b ∙ c .body-length .ensures) (omega arith) (λ z. omega arith) whole u)
+
+    entry-passed : unfit (entryAt (table c) (place c) body) ≡ false
+        → all ≡ verdictFrom (table c) (turn c .before .loop .passed + 1) (place c + (1 + body))
+    entry-passed u =
+        turn c .before .loop .inv
+        ∙ passes _ _ _ (turn c .loop-test .taken) (sym b ∙ c .body-length .ensures) (omega arith) (λ z. omega arith) whole u
+
+-- kinds 1 and 2
+returns-2 : tie.Need-returns-2 Inv-loop μ-loop
+returns-2 c = let arm = c .before in entry-cut (arm .before) 11 (arm .match .keys1) (omega arith) (c .if2 .taken)
+
 returns-3 : tie.Need-returns-3 Inv-loop μ-loop
 returns-3 c =
     let tested = c .before in
     let whole = tested .before .before in
     let arm = whole .before in
-    let at-body = arm .before in
-    decided (turn at-body .before .loop .inv)
-    (ranged _ _ _ (turn at-body .loop-test .taken) (sym (arm .match .keys1) ∙ at-body .body-length .ensures) (omega arith) (λ z. omega arith) (whole .if2 .left)
-    (lent (table at-body) (place at-body) 12 (tested .unfit .ensures) (c .if3 .taken)))
+    entry-ranged (arm .before) 11 (arm .match .keys1) (omega arith) (whole .if2 .left)
+    (lent (table (arm .before)) (place (arm .before)) 12 (tested .unfit .ensures) (c .if3 .taken))
 
--- a good one is passed
 loop-again : tie.Need-loop-again Inv-loop μ-loop
 loop-again c =
     let tested = c .before in
     let whole = tested .before .before in
     let arm = whole .before in
-    let at-body = arm .before in
-    turn at-body .before .loop .inv
-    ∙ passes _ _ _ (turn at-body .loop-test .taken) (sym (arm .match .keys1) ∙ at-body .body-length .ensures) (omega arith) (λ z. omega arith) (whole .if2 .left)
-    (lent (table at-body) (place at-body) 12 (tested .unfit .ensures) (c .if3 .left))
+    entry-passed (arm .before) 11 (arm .match .keys1) (omega arith) (whole .if2 .left)
+    (lent (table (arm .before)) (place (arm .before)) 12 (tested .unfit .ensures) (c .if3 .left))
 
--- a cut entry of kind 4
+-- kind 4
 returns-4 : tie.Need-returns-4 Inv-loop μ-loop
-returns-4 c =
-    let arm = c .before in
-    let at-body = arm .before in
-    decided (turn at-body .before .loop .inv)
-    (cut _ _ _ (turn at-body .loop-test .taken) (sym (arm .match .keys2) ∙ at-body .body-length .ensures) (omega arith) (λ z. omega arith) (c .if4 .taken))
+returns-4 c = let arm = c .before in entry-cut (arm .before) 25 (arm .match .keys2) (omega arith) (c .if4 .taken)
 
--- one out of range
 returns-5 : tie.Need-returns-5 Inv-loop μ-loop
 returns-5 c =
     let tested = c .before in
     let whole = tested .before .before in
     let arm = whole .before in
-    let at-body = arm .before in
-    decided (turn at-body .before .loop .inv)
-    (ranged _ _ _ (turn at-body .loop-test .taken) (sym (arm .match .keys2) ∙ at-body .body-length .ensures) (omega arith) (λ z. omega arith) (whole .if4 .left)
-    (lent (table at-body) (place at-body) 26 (tested .unfit2 .ensures) (c .if5 .taken)))
+    entry-ranged (arm .before) 25 (arm .match .keys2) (omega arith) (whole .if4 .left)
+    (lent (table (arm .before)) (place (arm .before)) 26 (tested .unfit2 .ensures) (c .if5 .taken))
 
--- a good one is passed
 loop-again-2 : tie.Need-loop-again-2 Inv-loop μ-loop
 loop-again-2 c =
     let tested = c .before in
     let whole = tested .before .before in
     let arm = whole .before in
-    let at-body = arm .before in
-    turn at-body .before .loop .inv
-    ∙ passes _ _ _ (turn at-body .loop-test .taken) (sym (arm .match .keys2) ∙ at-body .body-length .ensures) (omega arith) (λ z. omega arith) (whole .if4 .left)
-    (lent (table at-body) (place at-body) 26 (tested .unfit2 .ensures) (c .if5 .left))
+    entry-passed (arm .before) 25 (arm .match .keys2) (omega arith) (whole .if4 .left)
+    (lent (table (arm .before)) (place (arm .before)) 26 (tested .unfit2 .ensures) (c .if5 .left))
 
 -- an octet that is no kind
 returns-6 : tie.Need-returns-6 Inv-loop μ-loop
