@@ -1,7 +1,7 @@
 -- What an entry of kind 4 asks of an IPv4 packet (document 02, CR 1). The packet is the payload `p` of a frame. Assumes nothing.
 use Prim.Native.Nat.{ℕ, _+_}
 use mathlib.Core.Path.{_≡_}
-use mathlib.Core.Bool.{Bool, true, false, cond, not, _&&_, _||_}
+use mathlib.Core.Bool.{Bool, false, cond, not, _&&_, _||_}
 use mathlib.Core.List.{List}
 use lib.ListN.{length}
 use lib.Dec.{leb, eqb}
@@ -67,6 +67,14 @@ fitsAs e Cut p = false
 unfoldable pub ipAllows : List ℕ → (type : ℕ) → List ℕ → Bool
 ipAllows e type p = eqb type IPv4 && fitsAs e (reading p) p
 
--- the promise of `ip_allows`
-abbrev pub AllowsIp : List ℕ → ℕ → List ℕ → Bool → Type 0
-AllowsIp e type p r = r ≡ ipAllows e type p
+-- what the inner functions promise their callers. `packet_of`: the packet that is read once for all entries, with the type's test in it
+unfoldable pub packetOf : (type : ℕ) → List ℕ → Reading
+packetOf type p = cond (eqb type IPv4) (reading p) Bad
+
+-- the promises: of `packet_of`
+abbrev pub ReadsPacket : ℕ → List ℕ → Reading → Type 0
+ReadsPacket type p r = r ≡ packetOf type p
+
+-- of `ip_allows`
+abbrev pub AllowsIp : List ℕ → Reading → List ℕ → Bool → Type 0
+AllowsIp e packet p r = r ≡ fitsAs e packet p

@@ -2,24 +2,28 @@
 use ipv4::Header;
 use ipv4::Reading;
 ghost use mathlib.Core.Path.{_≡_};
-ghost use Rattle.entry.specs.Ip.{protocolNumber, zeroOr, dscpFits, noPort, portsFit, protocolFits, ipFits, AllowsIp};
+ghost use Rattle.entry.specs.Ip.{protocolNumber, zeroOr, dscpFits, noPort, portsFit, protocolFits, ipFits, ReadsPacket, AllowsIp};
 
 const IPV4: u16 = 0x0800;
 
 const NONE: u8 = 1;
 
-// Whether a payload behind this type is a packet that the entry asks for. The type comes second: where it comes first, a walk tests it
-// for every frame, since it is the same for all entries.
-pub fn ip_allows(entry: &[u8], kind: u16, payload: &[u8]) -> bool
-    ensures { λ r. ⌜ AllowsIp (now (entry .entry)) kind (now (payload .entry)) r ⌝ }
+// The packet that a payload behind this type begins with. Behind another type it is as a bad one.
+pub fn packet_of(kind: u16, payload: &[u8]) -> Reading
+    ensures { λ r. ⌜ ReadsPacket kind (now (payload .entry)) r ⌝ }
 {
-    match ipv4::read(payload) {
-        Reading::Whole(ip) => {
-            if kind != IPV4 {
-                return false;
-            }
-            ip_fits(entry, ip, payload)
-        }
+    if kind != IPV4 {
+        return Reading::Bad;
+    }
+    ipv4::read(payload)
+}
+
+// Whether a payload that begins with this packet is one that the entry asks for.
+pub fn ip_allows(entry: &[u8], packet: Reading, payload: &[u8]) -> bool
+    ensures { λ r. ⌜ AllowsIp (now (entry .entry)) packet (now (payload .entry)) r ⌝ }
+{
+    match packet {
+        Reading::Whole(ip) => ip_fits(entry, ip, payload),
         Reading::Bad => false,
         Reading::Cut => false,
     }

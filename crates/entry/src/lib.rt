@@ -10,5 +10,6 @@ pub use contents::ip_out_of_range;
 pub use contents::out_of_range;
 pub use contents::unfit;
 pub use ip::ip_allows;
+pub use ip::packet_of;
+pub use matching::address_of;
 pub use matching::allows;
-pub use matching::key;

@@ -2,12 +2,11 @@
 use Prim.Native.Nat.{ℕ, _*_, _/_, _%_, _≤_, _<_}
 use native.Mathlib.Omega.{arith}
 use mathlib.Core.Path.{_≡_}
-use mathlib.Core.Bool.{true, false, not, or-true}
+use mathlib.Core.Bool.{Bool, false, or-true}
 use mathlib.Core.List.{List}
 use lib.ListN.{length, getD}
-use lib.Dec.{eqb}
 use borrow.Author.Tests.{lt-ltb, le-ltb, eq-eqb, ne-eqb}
-use Rattle.octets.specs.Number.{be16, be32}
+use Rattle.octets.specs.Number.{be32}
 use Rattle.ipv4.specs.declared.Header.{Header}
 use Rattle.ipv4.specs.declared.Reading.the-variants.{Whole, Bad, Cut}
 use Rattle.ipv4.specs.Reader.{version, words, headerLength, dscp, later, bad, cut, header, reading, Reads}
@@ -36,17 +35,21 @@ module _ (p : List ℕ) where
     whole l = simp (good, le-ltb _ _ l)
 
 -- what is read of a whole header, field by field
-pub says : (p : List ℕ) {first source destination second protocol flags : ℕ}
-    → first ≡ getD p 0 0 → source ≡ be32 p 12 → destination ≡ be32 p 16 → second ≡ getD p 1 0 → protocol ≡ getD p 9 0 → flags ≡ be16 p 6
+pub behind-options : (p : List ℕ) {first : ℕ} → first ≡ getD p 0 0 → first % 16 * 4 ≡ headerLength p
+unfolding headerLength words
+behind-options p f = rw f
+
+pub says : (p : List ℕ) {source destination code protocol ports : ℕ} {behind : Bool}
+    → source ≡ be32 p 12 → destination ≡ be32 p 16 → code ≡ dscp p → protocol ≡ getD p 9 0 → behind ≡ later p → ports ≡ headerLength p
     → _≡_ {A = Header}
     (record {
       source = source;
       destination = destination;
-      dscp = second / 4;
+      dscp = code;
       protocol = protocol;
-      later = not (eqb (flags % 8192) 0);
-      ports = first % 16 * 4;
+      later = behind;
+      ports = ports;
     })
     (header p)
-unfolding header dscp later headerLength words
-says p f s d o r g = rw (f, s, d, o, r, g)
+unfolding header
+says p s d c r l o = rw (s, d, c, r, l, o)

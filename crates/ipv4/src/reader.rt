@@ -1,7 +1,8 @@
 // "Bad" and "cut" (document 02, CR 1), and what a whole header says.
 use crate::Header;
 use crate::Reading;
-ghost use Rattle.ipv4.specs.Reader.{Reads};
+ghost use mathlib.Core.Path.{_≡_};
+ghost use Rattle.ipv4.specs.Reader.{dscp, later, Reads};
 
 // In octets: the shortest header, of five words.
 const SHORTEST: usize = 20;
@@ -27,9 +28,23 @@ pub fn read(packet: &[u8]) -> Reading
     Reading::Whole(Header {
         source: octets::word32(packet, 12),
         destination: octets::word32(packet, 16),
-        dscp: octets::octet(packet, 1) / 4,
+        dscp: dscp_of(packet),
         protocol: octets::octet(packet, 9),
-        later: octets::word16(packet, 6) % 8192 != 0,
+        later: is_later(packet),
         ports: length,
     })
+}
+
+// The high six bits of the second octet.
+fn dscp_of(packet: &[u8]) -> u8
+    ensures { λ r. ⌜ r ≡ dscp (now (packet .entry)) ⌝ }
+{
+    octets::octet(packet, 1) / 4
+}
+
+// Whether the offset, the low 13 bits beside the flags, is not 0.
+fn is_later(packet: &[u8]) -> bool
+    ensures { λ r. ⌜ r ≡ later (now (packet .entry)) ⌝ }
+{
+    octets::word16(packet, 6) % 8192 != 0
 }

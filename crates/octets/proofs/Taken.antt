@@ -1,7 +1,7 @@
 -- Numbers taken apart into their octets again, and numbers in a part of lent octets. Assumes nothing.
-use Prim.Native.Nat.{ℕ, _+_, _*_, _/_, _%_, _<_}
+use Prim.Native.Nat.{ℕ, _+_, _/_, _%_, _<_}
 use native.Mathlib.Omega.{arith}
-use mathlib.Core.Path.{_≡_, ap, _∙_}
+use mathlib.Core.Path.{_≡_, _∙_}
 use mathlib.Core.List.{List}
 use lib.ListN.{getD, take, drop}
 use lib.Seq.{getD-take, getD-drop}
@@ -41,10 +41,10 @@ module _ (o : List ℕ) (octets : (k : ℕ) → getD o k 0 < 256) (at : ℕ) whe
       let n : at + 4 + 2 + 1 ≡ at + 7 = omega arith in
       rw n (omega (arith, octets (at + 7)))
 
-  -- the first, and the six behind it
-  pub first-seven : be64 o at / 256 ≡ getD o at 0 * 281474976710656 + be48 o (at + 1)
+  -- the six between them
+  pub middle-six : be64 o at / 256 % 281474976710656 ≡ be48 o (at + 1)
   unfolding be16 be32 be48 be64
-  first-seven =
+  middle-six =
       let a : at + 2 + 1 ≡ at + 3 = omega arith in
       let b : at + 4 + 1 ≡ at + 5 = omega arith in
       let c : at + 4 + 2 ≡ at + 6 = omega arith in
@@ -54,20 +54,17 @@ module _ (o : List ℕ) (octets : (k : ℕ) → getD o k 0 < 256) (at : ℕ) whe
       let g : at + 3 + 1 ≡ at + 4 = omega arith in
       let h : at + 3 + 2 ≡ at + 5 = omega arith in
       let i : at + 5 + 1 ≡ at + 6 = omega arith in
-      rw (a, b, c, d, e, f, g, h, i) (omega (arith, octets (at + 7)))
-
-  pub six-below : be48 o at < 281474976710656
-  unfolding be16 be32 be48
-  six-below =
-      omega (
+      rw (a, b, c, d, e, f, g, h, i)
+      (omega (
         arith,
-        octets at,
         octets (at + 1),
         octets (at + 2),
-        octets (at + 2 + 1),
-        octets (at + 2 + 2),
-        octets (at + 2 + 2 + 1),
-      )
+        octets (at + 3),
+        octets (at + 4),
+        octets (at + 5),
+        octets (at + 6),
+        octets (at + 7),
+      ))
 
 -- a part of so many octets from a place on
 module _ (o : List ℕ) (at n : ℕ) where

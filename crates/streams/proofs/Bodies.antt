@@ -2,7 +2,7 @@
 use Prim.Native.Nat.{ℕ, _≤_}
 use native.Mathlib.Omega.{arith}
 use mathlib.Core.Path.{_≡_, refl, _∙_}
-use mathlib.Core.Bool.{true, false, _||_}
+use mathlib.Core.Bool.{false, _||_}
 use lib.Dec.{eqb}
 use borrow.Author.Tests.{eqb-true}
 use Rattle.octets.proofs.Bools.{by-cases}
@@ -21,20 +21,12 @@ least-body k n =
     by-cases (eqb k 1 || eqb k 2) (λ e. rw e (omega arith))
     (λ e. by-cases (eqb k 4) (λ f. rw (e, f) (omega arith)) (λ f. absurd (n (rw (e, f) refl))))
 
-pub by-address : (k : ℕ) → 11 ≡ bodyLength k → (eqb k 1 || eqb k 2) ≡ true
+pub not-ip : (k : ℕ) → 11 ≡ bodyLength k → eqb k 4 ≡ false
 unfolding bodyLength
-by-address k b =
-    by-cases (eqb k 1 || eqb k 2) (λ e. e)
-    (λ e. by-cases (eqb k 4) (λ f. absurd (omega (arith, rw (e, f) at b))) (λ f. absurd (omega (arith, rw (e, f) at b))))
+not-ip k b = by-cases (eqb k 4) (λ f. absurd (omega (arith, rw (eqb-true k 4 f) at b))) (λ f. f)
 
 pub is-ip : (k : ℕ) → 25 ≡ bodyLength k → k ≡ 4
 unfolding bodyLength
 is-ip k b =
     by-cases (eqb k 1 || eqb k 2) (λ e. absurd (omega (arith, rw e at b)))
     (λ e. by-cases (eqb k 4) (λ f. eqb-true _ _ f) (λ f. absurd (omega (arith, rw (e, f) at b))))
-
--- a kind by address is one of two, and not 4
-pub some-kind : (k : ℕ) → (eqb k 1 || eqb k 2) ≡ true → (1 ≤ k) × (eqb k 4 ≡ false)
-some-kind k e =
-    by-cases (eqb k 1) (λ one. rw (eqb-true k 1 one) (omega arith, refl))
-    (λ other. rw (eqb-true k 2 (rw other at e)) (omega arith, refl))

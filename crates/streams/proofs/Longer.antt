@@ -1,12 +1,12 @@
 -- A payload that goes on behind its end, as by a trailer, is the same to an entry that does not read there. Assumes nothing.
-use Prim.Native.Nat.{ℕ, _+_, _*_, _≤_, _<_}
+use Prim.Native.Nat.{ℕ, _+_, _≤_, _<_}
 use native.Mathlib.Omega.{arith}
-use mathlib.Core.Path.{_≡_, refl, sym, ap, _∙_}
+use mathlib.Core.Path.{_≡_, refl, _∙_}
 use mathlib.Core.Bool.{Bool, true, false, not, _&&_, _||_, or-true}
 use mathlib.Core.List.{List, [], _∷_}
 use lib.ListN.{length, getD}
-use lib.Dec.{leb, ltb, eqb}
-use borrow.Author.Tests.{leb-true, le-leb, ltb-false, le-ltb, not-true, not-false}
+use lib.Dec.{ltb, eqb}
+use borrow.Author.Tests.{leb-true, le-leb, ltb-false, le-ltb}
 use Rattle.octets.specs.Number.{be16, be32}
 use Rattle.octets.proofs.Bools.{by-cases, neither}
 use Rattle.frame.specs.declared.Header.{Header}

@@ -2,20 +2,19 @@
 use Prim.Native.Nat.{ℕ, zero, suc, _+_, _-_, _≤_, _<_}
 use native.Mathlib.Omega.{arith}
 use mathlib.Core.Path.{_≡_, refl, sym, _∙_, ap}
-use mathlib.Core.Bool.{true, false, cond}
+use mathlib.Core.Bool.{true, false}
 use mathlib.Core.List.{List, [], _∷_}
 use lib.ListN.{length, getD, take, drop, length-take, length-drop, drop-of-length-le}
 use lib.Seq.{drop-cons, drop-drop, take-all, length-take-le}
 use borrow.Author.Tests.{lt-ltb, le-ltb, ltb-false, le-leb, lt-leb, leb-false, eq-eqb, ne-eqb, eqb-false}
-use Rattle.octets.specs.Checks.{Verdict, good, refuse, verdict, _then_}
-use Rattle.octets.proofs.Bools.{by-cases}
+use Rattle.octets.specs.Checks.{good, refuse, verdict, _then_}
 use Rattle.octets.proofs.Order.{verdict-append, clear, both-good}
 use Rattle.frame.specs.declared.Header.{Header}
-use Rattle.streams.specs.declared.Found.{Found}
 use Rattle.streams.specs.declared.Found.the-variants.{Stream, NoStream}
 use Rattle.entry.specs.Contents.{kind, bodyLength, handle, unfit}
 use Rattle.entry.specs.Matching.{matches}
-use Rattle.streams.specs.Table.{entriesAfter, entries, entryChecks, tableChecks, firstMatch, verdictFrom}
+use Rattle.streams.specs.Table.{entriesAfter, entries, entryChecks, tableChecks, firstMatch}
+use Rattle.streams.specs.Walk.{verdictFrom}
 
 -- octets that belong to the entry before are passed over
 entries-after : (left : ℕ) (t : List ℕ) → entriesAfter left t ≡ entries (drop left t)

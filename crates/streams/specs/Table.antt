@@ -1,12 +1,11 @@
 -- A stream table (document 01, "Stream tables"): octets cut into entries, the checks of each in document 01's order, and what a lookup
 -- finds. Assumes nothing.
-use Prim.Native.Nat.{ℕ, zero, suc, _+_, _-_, _≤_}
+use Prim.Native.Nat.{ℕ, zero, suc, _+_}
 use mathlib.Core.Path.{_≡_}
 use mathlib.Core.Bool.{cond}
 use mathlib.Core.List.{List, [], _∷_, _++_}
 use lib.ListN.{length, take, drop}
 use lib.Dec.{leb, ltb, eqb}
-use Rattle.octets.specs.Number.{be64}
 use Rattle.octets.specs.Checks.{Check, _⇒_, Verdict, good, refuse, verdict, _then_}
 use Rattle.frame.specs.declared.Header.{Header}
 use Rattle.frame.specs.Reader.{checks, header}
@@ -65,22 +64,6 @@ lookupOf t o = foundBy (tableVerdict t then verdict (checks o)) (firstMatch (ent
 abbrev pub checkedBy : Verdict → Checked
 checkedBy good = Checked.Good
 checkedBy (refuse n) = Checked.Refused n
-
--- what the inner functions promise their callers. `checked` and `settled`: the verdict on the entries from a place on, with so many before
-unfoldable pub verdictFrom : List ℕ → (before at : ℕ) → Verdict
-verdictFrom t before at = verdict (tableChecks before (entries (drop at t)))
-
--- `walk`: what a walk over a whole table finds, its refusal or else the first match
-unfoldable pub walked : List ℕ → Header → List ℕ → Found
-walked t h p = foundBy (tableVerdict t) (firstMatch (entries t) h p)
-
--- what it asks of them: the payload starts within the frame
-abbrev pub InFrame : List ℕ → Header → Type 0
-InFrame o h = h .payload ≤ length o
-
--- `front_at`: the first eight octets of an entry as one number, where there is room for the shortest one
-unfoldable pub frontAt : List ℕ → ℕ → ℕ
-frontAt t at = cond (ltb (length t - at) 12) 0 (be64 t at)
 
 -- the promises: of `check`
 abbrev pub ChecksTable : List ℕ → Checked → Type 0

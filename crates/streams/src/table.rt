@@ -1,18 +1,27 @@
 // "Stream tables" (document 01): the whole table is checked first, in order; then the frame; then the first match gives the handle.
 //
-// It is one walk all the same: each entry is passed once, up to the first match checked and compared, and behind it checked.
+// It is one walk all the same: each entry is passed once, up to the first match checked and compared (`seek`), and behind it checked
+// (`checked`).
 use crate::Checked;
 use crate::Found;
 use frame::Header;
 use frame::Reading;
 ghost use mathlib.Core.Path.{_≡_};
-ghost use mathlib.Core.Bool.{cond, _&&_};
 ghost use Prim.Native.Nat.{_≤_};
 ghost use lib.ListN.{length, drop};
-ghost use lib.Dec.{eqb};
-ghost use Rattle.entry.specs.Ip.{ipAllows};
-ghost use Rattle.entry.specs.Matching.{allowsBy};
-ghost use Rattle.streams.specs.Table.{verdictFrom, checkedBy, foundBy, walked, frontAt, InFrame, ChecksTable, LooksUp};
+ghost use Rattle.entry.specs.Matching.{Untagged};
+ghost use Rattle.streams.specs.Table.{checkedBy, foundBy, ChecksTable, LooksUp};
+ghost use Rattle.streams.specs.Walk.{verdictFrom, walked, matchedAt, packetAt, Whole, Seeks, InFrame, frontAt};
+
+// Where a search for the frame's address, tag and VLAN stops: the place of an entry, and how many stand before it.
+enum Sought {
+    // An entry of kind 1 or 2 that has them: it matches.
+    Match(usize, usize),
+    // One of kind 4 that has them: it asks for a packet too.
+    Packet(usize, usize),
+    // The end, or a fault.
+    Rest(usize, usize),
+}
 
 // "At most 256 entries".
 const MOST: usize = 256;
@@ -34,36 +43,78 @@ pub fn lookup(table: &[u8], frame: &[u8]) -> Found
     }
 }
 
-// The walk up to the first match. At a fault it leaves the entry to `checked`, which knows the numbers.
-//
-// The front of an entry, its first eight octets as one number, is read at the end of the turn before: so it is one load to the compiler,
-// which else reads the octets that are tested by themselves. For the same reason each kind ends the turn by itself.
+// The stream of a frame with this header.
 fn walk(table: &[u8], frame: &[u8], h: Header) -> Found
     requires { ⌜ InFrame (now frame) h ⌝ }
-    ensures { λ r. ⌜ r ≡ walked (now (table .entry)) h (drop (h .payload) (now (frame .entry))) ⌝ }
+    ensures { λ r. ⌜ r ≡ walked (now (table .entry)) h (drop (h .payload) (now (frame .entry))) 0 0 ⌝ }
 {
-    let by_destination = entry::key(1, h);
-    let by_source = entry::key(2, h);
-    let by_ip = entry::key(4, h);
+    match seek(table, h, 0, 0) {
+        Sought::Match(at, passed) => matched(table, at, passed, 11),
+        Sought::Packet(at, passed) => among_packets(table, frame, h, at, passed),
+        Sought::Rest(at, passed) => settled(table, at, passed, Found::NoStream),
+    }
+}
+
+// The walk from an entry on that asks for a packet. It is a loop of its own: so a walk over kinds 1 and 2 makes no packet ready, and one
+// over kind 4 reads it once.
+fn among_packets(table: &[u8], frame: &[u8], h: Header, from: usize, count: usize) -> Found
+    requires { ⌜ InFrame (now frame) h × Whole (now table) from count 25 ⌝ }
+    ensures { λ r. ⌜ r ≡ packetAt (now (table .entry)) h (drop (h .payload) (now (frame .entry))) count from ⌝ }
+{
     let payload = h.payload;
+    let packet = entry::packet_of(h.kind, &frame[payload..]);
+    let mut at = from;
+    let mut passed = count;
+    loop {
+        if entry::ip_allows(&table[at..at + 26], packet, &frame[payload..]) {
+            return matched(table, at, passed, 25);
+        }
+        match seek(table, h, at + 26, passed + 1) {
+            Sought::Match(next, before) => return matched(table, next, before, 11),
+            Sought::Packet(next, before) => {
+                at = next;
+                passed = before;
+            }
+            Sought::Rest(next, before) => return settled(table, next, before, Found::NoStream),
+        }
+    }
+}
+
+// The answer at an entry that matches: the handle is the last of its body.
+fn matched(table: &[u8], at: usize, passed: usize, body: usize) -> Found
+    requires { ⌜ Whole (now table) at passed body ⌝ }
+    ensures { λ r. ⌜ r ≡ matchedAt (now (table .entry)) passed at body ⌝ }
+{
+    let handle = octets::word16(table, at + (body - 1));
+    settled(table, at + (1 + body), passed + 1, Found::Stream(handle))
+}
+
+// The next entry with the frame's address, tag and VLAN, from a place on. At a fault it stops, and leaves the entry to `checked`, which
+// knows the numbers.
+//
+// The front of an entry, its first eight octets as one number, is read at the end of the turn before: so it is one load to the compiler,
+// which else reads the octets that are tested by themselves. For the same reason each length of a body ends the turn by itself.
+fn seek(table: &[u8], h: Header, from: usize, count: usize) -> Sought
+    requires { ⌜ (from ≤ length (now table)) × Untagged h ⌝ }
+    ensures { λ r. ⌜ Seeks (now (table .entry)) h count from r ⌝ }
+{
     let n = table.len();
-    let mut front = front_at(table, 0);
-    let mut passed: usize = 0;
-    let mut at: usize = 0;
+    let mut front = front_at(table, from);
+    let mut passed = count;
+    let mut at = from;
     while 12 <= n - at {
         if MOST <= passed {
-            return settled(table, at, passed, Found::NoStream);
+            break;
         }
         let vlan = octets::word16(table, at + 8);
         let kind = (front / 72057594037927936) as u8;
         match entry::body_length(kind) {
             11 => {
                 if entry::out_of_range((front % 256) as u8, vlan) {
-                    return settled(table, at, passed, Found::NoStream);
+                    break;
                 }
-                if entry::allows(front, either(kind, by_source, by_destination), vlan, h) {
-                    let handle = octets::word16(table, at + 10);
-                    return settled(table, at + 12, passed + 1, Found::Stream(handle));
+                if entry::allows(front, entry::address_of(kind, h), vlan, h) {
+                    return Sought::Match(at, passed);
                 }
                 at = at + 12;
                 passed = passed + 1;
@@ -72,34 +123,26 @@ fn walk(table: &[u8], frame: &[u8], h: Header) -> Found
             }
             25 => {
                 if n - at < 26 {
-                    return settled(table, at, passed, Found::NoStream);
+                    break;
                 }
                 if entry::out_of_range((front % 256) as u8, vlan) {
-                    return settled(table, at, passed, Found::NoStream);
+                    break;
                 }
                 if entry::ip_out_of_range(table[at + 18], table[at + 19]) {
-                    return settled(table, at, passed, Found::NoStream);
+                    break;
                 }
-                if ip_fits(
-                    front,
-                    by_ip,
-                    vlan,
-                    h,
-                    &table[at..at + 26],
-                    &frame[payload..],
-                ) {
-                    let handle = octets::word16(table, at + 24);
-                    return settled(table, at + 26, passed + 1, Found::Stream(handle));
+                if entry::allows(front, h.destination, vlan, h) {
+                    return Sought::Packet(at, passed);
                 }
                 at = at + 26;
                 passed = passed + 1;
                 front = front_at(table, at);
                 continue;
             }
-            _ => return settled(table, at, passed, Found::NoStream),
+            _ => break,
         }
     }
-    settled(table, at, passed, Found::NoStream)
+    Sought::Rest(at, passed)
 }
 
 // The front of the entry at a place; 0 where there is room for none.
@@ -112,23 +155,6 @@ fn front_at(table: &[u8], at: usize) -> u64
     } else {
         octets::word64(table, at)
     }
-}
-
-// The key of kind 2, or that of kind 1.
-fn either(kind: u8, second: u64, first: u64) -> u64
-    ensures { λ r. ⌜ r ≡ cond (eqb kind 2) second first ⌝ }
-{
-    if kind == 2 { second } else { first }
-}
-
-// The test of every kind, and only where it holds the packet's header is read.
-fn ip_fits(front: u64, key: u64, vlan: u16, h: Header, entry: &[u8], payload: &[u8]) -> bool
-    ensures { λ r. ⌜ r ≡ allowsBy front key vlan h && ipAllows (now (entry .entry)) (h .kind) (now (payload .entry)) ⌝ }
-{
-    if entry::allows(front, key, vlan, h) {
-        return entry::ip_allows(entry, h.kind, payload);
-    }
-    false
 }
 
 // What a lookup answers that has come to this, with the entries from a place on still to be checked.

@@ -1,8 +1,7 @@
 -- `entry::contents::unfit` meets its promise: the ranges of every kind, then those of kind 4. Assumes nothing.
 use mathlib.Core.Path.{sym, _∙_}
-use mathlib.Core.Bool.{or-true, or-false}
 use borrow.Author.Needs.{needs}
-use borrow.Author.Tests.{eq-eqb, ne-eqb}
+use borrow.Author.Tests.{ne-eqb}
 use Rattle.entry.specs.Contents.{kind, choice, vlan, dscp, protocol, unfit}
 use Rattle.entry.proofs.contents.unfit.Statement.{statement}
 use Rattle.entry.proofs.contents.unfit.Tie as tie

@@ -3,7 +3,7 @@ use native.Mathlib.Omega.{arith}
 use mathlib.Core.Path.{ap, _∙_}
 use borrow.Author.Needs.{needs}
 use Rattle.ipv4.specs.declared.Reading.the-variants.{Whole}
-use Rattle.ipv4.proofs.Verdicts.{other-version, under-five-words, shorter, whole, says}
+use Rattle.ipv4.proofs.Verdicts.{other-version, under-five-words, shorter, whole, behind-options, says}
 use Rattle.ipv4.proofs.reader.read.Statement.{statement}
 use Rattle.ipv4.proofs.reader.read.Tie as tie
 
@@ -41,12 +41,12 @@ returns-5 c =
     ap Whole
     (says
     _
-    (at-first .octet .ensures)
     (at-source .word32 .ensures)
     (at-destination .word322 .ensures)
-    (at-dscp .octet2 .ensures)
-    (at-protocol .octet3 .ensures)
-    (c .word16 .ensures))
+    (at-dscp .dscp-of .ensures)
+    (at-protocol .octet2 .ensures)
+    (c .is-later .ensures)
+    (behind-options _ (at-first .octet .ensures)))
     ∙ whole _ (omega arith) (omega arith) (omega arith)
 
 pub read-spec : {M : Type 1} → statement M

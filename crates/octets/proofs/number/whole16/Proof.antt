@@ -7,43 +7,31 @@ use Rattle.octets.specs.Number.{be16}
 use Rattle.octets.proofs.number.whole16.Statement.{statement}
 use Rattle.octets.proofs.number.whole16.Tie as tie
 
-shared-slice-read-result : tie.Need-shared-slice-read-result
-shared-slice-read-result c = search needs
-
 cast-result : tie.Need-cast-result
-cast-result c = let at-start = c .before in omega (arith, c .shared-slice-known .given (at-start .args .at))
+cast-result c = omega (arith, c .shared-slice-known .given (c .before .args .at))
 
 mul-result : tie.Need-mul-result
-mul-result c = let at-start = c .before in omega (arith, c .shared-slice-known .given (at-start .args .at))
-
-add-result : tie.Need-add-result
-add-result c = search needs
-
-shared-slice-read-result-2 : tie.Need-shared-slice-read-result-2
-shared-slice-read-result-2 c = search needs
+mul-result c = omega (arith, c .shared-slice-known .given (c .before .args .at))
 
 cast-result-2 : tie.Need-cast-result-2
-cast-result-2 c = let at-start = c .before .before in omega (arith, c .shared-slice-known2 .given (at-start .args .at + 1))
+cast-result-2 c = omega (arith, c .shared-slice-known2 .given (c .before .before .args .at + 1))
 
 add-result-2 : tie.Need-add-result-2
 add-result-2 c =
-    let at-start = c .before .before in
+    let at = c .before .before .args .at in
     let below = c .shared-slice-known2 .given in
-    omega (arith, below (at-start .args .at), below (at-start .args .at + 1))
+    omega (arith, below at, below (at + 1))
 
 returns : tie.Need-returns
 unfolding be16
 returns c = refl
 
 pub whole16-spec : {M : Type 1} → statement M
-whole16-spec =
+whole16-spec {M} =
     tie.close
-    (tie.spec
-    shared-slice-read-result
-    cast-result
+    (tie.spec {M = M}
+    (search needs) cast-result
     mul-result
-    add-result
-    shared-slice-read-result-2
-    cast-result-2
+    (search needs) (search needs) cast-result-2
     add-result-2
     returns)

@@ -5,27 +5,6 @@ use Rattle.octets.proofs.PastTheEnd.{word32-past}
 use Rattle.octets.proofs.number.word32.Statement.{statement}
 use Rattle.octets.proofs.number.word32.Tie as tie
 
-sub-if2 : tie.Need-sub-if2
-sub-if2 c = search needs
-
-whole32-requires : tie.Need-whole32-requires
-whole32-requires c κs = search needs
-
-cast-result : tie.Need-cast-result
-cast-result c = search needs
-
-mul-result : tie.Need-mul-result
-mul-result c = search needs
-
-add-word16 : tie.Need-add-word16
-add-word16 c = search needs
-
-cast-result-2 : tie.Need-cast-result-2
-cast-result-2 c = search needs
-
-add-result : tie.Need-add-result
-add-result c = search needs
-
 -- all four octets are there
 returns : tie.Need-returns
 returns c = c .whole32 .ensures
@@ -40,19 +19,9 @@ returns-3 : tie.Need-returns-3
 returns-3 c = let at-start = c .before .before in word32-past (at-start .args .s .now) (at-start .args .at) (c .if1 .left)
 
 pub word32-spec : {M : Type 1} → statement M
-word32-spec =
+word32-spec {M} =
     tie.close
-    (search (
-      tie.spec,
-      sub-if2,
-      whole32-requires,
-      cast-result,
-      mul-result,
-      add-word16,
-      cast-result-2,
-      add-result,
-      returns,
-      returns-2,
-      returns-3,
-      needs,
-    ))
+    (tie.spec {M = M}
+    (search needs) (search needs) returns
+    (search needs) (search needs) (search needs) (search needs) (search needs) (search needs) (search needs) returns-2
+    returns-3)

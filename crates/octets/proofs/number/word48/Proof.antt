@@ -7,27 +7,6 @@ use Rattle.octets.proofs.Taken.{first-six}
 use Rattle.octets.proofs.number.word48.Statement.{statement}
 use Rattle.octets.proofs.number.word48.Tie as tie
 
-sub-if2 : tie.Need-sub-if2
-sub-if2 c = search needs
-
-whole64-requires : tie.Need-whole64-requires
-whole64-requires c κs = search needs
-
-cast-result : tie.Need-cast-result
-cast-result c = search needs
-
-mul-result : tie.Need-mul-result
-mul-result c = search needs
-
-add-word32 : tie.Need-add-word32
-add-word32 c = search needs
-
-cast-result-2 : tie.Need-cast-result-2
-cast-result-2 c = search needs
-
-add-result : tie.Need-add-result
-add-result c = search needs
-
 -- eight octets are there
 returns : tie.Need-returns
 returns c =
@@ -44,19 +23,9 @@ returns-3 : tie.Need-returns-3
 returns-3 c = let at-start = c .before .before in word48-past (at-start .args .s .now) (at-start .args .at) (c .if1 .left)
 
 pub word48-spec : {M : Type 1} → statement M
-word48-spec =
+word48-spec {M} =
     tie.close
-    (search (
-      tie.spec,
-      sub-if2,
-      whole64-requires,
-      cast-result,
-      mul-result,
-      add-word32,
-      cast-result-2,
-      add-result,
-      returns,
-      returns-2,
-      returns-3,
-      needs,
-    ))
+    (tie.spec {M = M}
+    (search needs) (search needs) returns
+    (search needs) (search needs) (search needs) (search needs) (search needs) (search needs) (search needs) returns-2
+    returns-3)

@@ -9,7 +9,8 @@ use borrow.Author.Needs.{needs}
 use Rattle.octets.specs.Checks.{Verdict}
 use Rattle.entry.specs.Contents.{unfit}
 use Rattle.streams.specs.declared.Checked.the-variants as Checked
-use Rattle.streams.specs.Table.{checkedBy, verdictFrom}
+use Rattle.streams.specs.Table.{checkedBy}
+use Rattle.streams.specs.Walk.{verdictFrom}
 use Rattle.streams.proofs.Bodies.{no-other}
 use Rattle.streams.proofs.Walked.{entryAt, none-left, too-many, unknown, cut, ranged, passes}
 use Rattle.streams.proofs.table.checked.Statement.{statement}
@@ -127,37 +128,14 @@ returns-7 c = decided (c .before .loop .inv) (none-left _ _ _ (c .loop-test .lef
 pub checked-spec : {M : Type 1} → statement M
 checked-spec {M} =
     tie.close
-    (tie.spec
-    {M = M}
-    Inv-loop
-    μ-loop
+    (tie.spec {M = M} Inv-loop μ-loop
     loop-holds
     returns
-    (search needs)
-    (search needs)
-    (search needs)
-    returns-2
-    (search needs)
-    (search needs)
-    (search needs)
-    (search needs)
-    (search needs)
-    returns-3
-    (search needs)
-    (search needs)
-    (search needs)
-    loop-again
-    (search needs)
-    returns-4
-    (search needs)
-    (search needs)
-    (search needs)
-    (search needs)
-    (search needs)
-    returns-5
-    (search needs)
-    (search needs)
-    (search needs)
-    loop-again-2
+    (search needs) (search needs) (search needs) returns-2
+    (search needs) (search needs) (search needs) (search needs) (search needs) returns-3
+    (search needs) (search needs) (search needs) loop-again
+    (search needs) returns-4
+    (search needs) (search needs) (search needs) (search needs) (search needs) returns-5
+    (search needs) (search needs) (search needs) loop-again-2
     returns-6
     returns-7)

@@ -1,7 +1,7 @@
 -- `streams::table::front_at` meets its promise. Assumes nothing.
 use borrow.Author.Needs.{needs}
 use borrow.Author.Tests.{lt-ltb, le-ltb}
-use Rattle.streams.specs.Table.{frontAt}
+use Rattle.streams.specs.Walk.{frontAt}
 use Rattle.streams.proofs.table.front_at.Statement.{statement}
 use Rattle.streams.proofs.table.front_at.Tie as tie
 

@@ -1,7 +1,7 @@
 -- `streams::table::settled` meets its promise: what was found stands where the rest of the table is good. Assumes nothing.
 use mathlib.Core.Path.{sym, _∙_}
 use borrow.Author.Needs.{needs}
-use Rattle.streams.specs.Table.{verdictFrom}
+use Rattle.streams.specs.Walk.{verdictFrom}
 use Rattle.streams.proofs.Answered.{checked-good, checked-refused}
 use Rattle.streams.proofs.table.settled.Statement.{statement}
 use Rattle.streams.proofs.table.settled.Tie as tie
