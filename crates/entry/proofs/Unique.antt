@@ -8,7 +8,8 @@ use Rattle.frame.specs.declared.Header.{Header}
 use Rattle.ipv4.specs.declared.Reading.{Reading}
 use Rattle.entry.specs.Contents.{HasBody, Ranges, IpRanges, Unfit}
 use Rattle.entry.specs.Ip.{ReadsPacket, AllowsIp}
-use Rattle.entry.specs.Matching.{Asks, Allows}
+use Rattle.entry.specs.Matching.{Asks}
+use Rattle.entry.specs.Front.{Allows}
 
 pub has-body-one : (kind : ℕ) {r r′ : ℕ} → HasBody kind r → HasBody kind r′ → r ≡ r′
 has-body-one kind = one

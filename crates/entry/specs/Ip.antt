@@ -32,12 +32,12 @@ zeroOr asked is = eqb asked 0 || eqb asked is
 unfoldable pub dscpFits : (asked is : ℕ) → Bool
 dscpFits asked is = eqb asked 255 || eqb asked is
 
--- no port is "asked" where both are zero; behind none they are not looked at
+-- no port is "asked" where both are zero; with none they are not looked at
 unfoldable pub noPort : (source destination : ℕ) → Bool
 noPort source destination = eqb source 0 && eqb destination 0
 
--- "where a port is asked" and "a payload shorter" than its header "plus four octets" is cut, and "a later fragment .. is no match"; else the two ports
--- behind the header are compared
+-- "cut means a payload shorter than its header, or than that plus four octets where a port is asked"; "a later fragment where a port is asked
+-- is no match". Else the two ports behind the header are compared
 unfoldable pub portsFit : (source destination : ℕ) → Header → List ℕ → Bool
 portsFit source destination ip p =
     not (ip .later)
@@ -67,7 +67,8 @@ fitsAs e Cut p = false
 unfoldable pub ipAllows : List ℕ → (type : ℕ) → List ℕ → Bool
 ipAllows e type p = eqb type IPv4 && fitsAs e (reading p) p
 
--- what the inner functions promise their callers. `packet_of`: the packet that is read once for all entries, with the type's test in it
+-- `packet_of`: the packet that is read once for all entries, with the type's test in it. Another type reads as a bad header, which fits no
+-- entry either
 unfoldable pub packetOf : (type : ℕ) → List ℕ → Reading
 packetOf type p = cond (eqb type IPv4) (reading p) Bad
 

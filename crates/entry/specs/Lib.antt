@@ -1,3 +1,4 @@
 pub mod Contents
 pub mod Ip
 pub mod Matching
+pub mod Front

@@ -1,8 +1,8 @@
 -- When an entry matches a frame (document 01, "Stream tables"; 002 clauses 9.1.2 and 9.1.3 for the three tag choices; document 02, CR 1 for
 -- IP streams). Assumes nothing.
-use Prim.Native.Nat.{ℕ, _/_, _%_}
+use Prim.Native.Nat.{ℕ}
 use mathlib.Core.Path.{_≡_}
-use mathlib.Core.Bool.{Bool, false, cond, not, _&&_, _||_}
+use mathlib.Core.Bool.{Bool, cond, not, _&&_, _||_}
 use mathlib.Core.List.{List}
 use lib.Dec.{eqb}
 use Rattle.frame.specs.declared.Header.{Header}
@@ -27,25 +27,6 @@ addressOf kind h = cond (eqb kind 2) (h .source) (h .destination)
 unfoldable pub matches : List ℕ → Header → List ℕ → Bool
 matches e h p = allows e (addressOf (kind e) h) h && (not (eqb (kind e) IP) || ipAllows e (h .kind) p)
 
--- *House*: "a frame without C-TAG has VLAN id 0"
-abbrev pub Untagged : Header → Type 0
-Untagged h = h .tagged ≡ false → h .vlan ≡ 0
-
--- what the inner functions promise their callers. `choice_fits`: the choice for a frame of which that is known
-unfoldable pub choiceFits : ℕ → (tagged : Bool) → (vlan : ℕ) → Bool
-choiceFits choice tagged vlan = (eqb choice 1 && tagged) || (eqb choice 2 && eqb vlan 0) || eqb choice 3
-
--- `allows`: the test of every kind for such a frame, by the number of an entry's first eight octets, kind, address and choice
-unfoldable pub allowsBy : (front asked vlan : ℕ) → Header → Bool
-allowsBy front asked vlan h =
-    eqb (front / 256 % 281474976710656) asked
-    && choiceFits (front % 256) (h .tagged) (h .vlan)
-    && (eqb vlan 0 || eqb vlan (h .vlan))
-
--- the promises: of `address_of`
+-- the promise of `address_of`
 abbrev pub Asks : ℕ → Header → ℕ → Type 0
 Asks kind h r = r ≡ addressOf kind h
-
--- of `allows`
-abbrev pub Allows : (front asked vlan : ℕ) → Header → Bool → Type 0
-Allows front asked vlan h r = r ≡ allowsBy front asked vlan h

@@ -29,8 +29,8 @@ pub fn ip_allows(entry: &[u8], packet: Reading, payload: &[u8]) -> bool
     }
 }
 
-fn ip_fits(entry: &[u8], ip: Header, packet: &[u8]) -> bool
-    ensures { λ r. ⌜ r ≡ ipFits (now (entry .entry)) ip (now (packet .entry)) ⌝ }
+fn ip_fits(entry: &[u8], ip: Header, payload: &[u8]) -> bool
+    ensures { λ r. ⌜ r ≡ ipFits (now (entry .entry)) ip (now (payload .entry)) ⌝ }
 {
     if !zero_or(octets::word32(entry, 10), ip.source) {
         return false;
@@ -41,11 +41,11 @@ fn ip_fits(entry: &[u8], ip: Header, packet: &[u8]) -> bool
     if !dscp_fits(octets::octet(entry, 18), ip.dscp) {
         return false;
     }
-    protocol_fits(entry, ip, packet)
+    protocol_fits(entry, ip, payload)
 }
 
-fn protocol_fits(entry: &[u8], ip: Header, packet: &[u8]) -> bool
-    ensures { λ r. ⌜ r ≡ protocolFits (now (entry .entry)) ip (now (packet .entry)) ⌝ }
+fn protocol_fits(entry: &[u8], ip: Header, payload: &[u8]) -> bool
+    ensures { λ r. ⌜ r ≡ protocolFits (now (entry .entry)) ip (now (payload .entry)) ⌝ }
 {
     let next = octets::octet(entry, 19);
     if next == NONE {
@@ -59,7 +59,7 @@ fn protocol_fits(entry: &[u8], ip: Header, packet: &[u8]) -> bool
     if none_asked(source, destination) {
         return true;
     }
-    ports_fit(source, destination, ip, packet)
+    ports_fit(source, destination, ip, payload)
 }
 
 fn none_asked(source: u16, destination: u16) -> bool
@@ -78,24 +78,24 @@ fn protocol_number(next: u8) -> u8
     }
 }
 
-fn ports_fit(source: u16, destination: u16, ip: Header, packet: &[u8]) -> bool
-    ensures { λ r. ⌜ r ≡ portsFit source destination ip (now (packet .entry)) ⌝ }
+fn ports_fit(source: u16, destination: u16, ip: Header, payload: &[u8]) -> bool
+    ensures { λ r. ⌜ r ≡ portsFit source destination ip (now (payload .entry)) ⌝ }
 {
     if ip.later {
         return false;
     }
-    if packet.len() < ip.ports {
+    if payload.len() < ip.ports {
         return false;
     }
-    if packet.len() - ip.ports < 4 {
+    if payload.len() - ip.ports < 4 {
         return false;
     }
-    if !zero_or(source as u32, octets::word16(packet, ip.ports) as u32) {
+    if !zero_or(source as u32, octets::word16(payload, ip.ports) as u32) {
         return false;
     }
     zero_or(
         destination as u32,
-        octets::word16(packet, ip.ports + 2) as u32,
+        octets::word16(payload, ip.ports + 2) as u32,
     )
 }
 

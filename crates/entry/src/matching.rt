@@ -3,7 +3,11 @@
 // An entry's kind, address and choice are its first eight octets, and come as one number, the front.
 use frame::Header;
 ghost use mathlib.Core.Path.{_≡_};
-ghost use Rattle.entry.specs.Matching.{choiceFits, Asks, Allows};
+ghost use Rattle.entry.specs.Front.{choiceFits, Allows};
+ghost use Rattle.entry.specs.Matching.{Asks};
+
+// 2 to the 48: there are so many addresses.
+const ADDRESSES: u64 = 281474976710656;
 
 // The frame's address that a kind asks for.
 pub fn address_of(kind: u8, h: Header) -> u64
@@ -12,11 +16,12 @@ pub fn address_of(kind: u8, h: Header) -> u64
     if kind == 2 { h.source } else { h.destination }
 }
 
-// Whether an entry that asks for this address allows the frame. The address comes first: it tells most entries apart.
+// Whether an entry that asks for this address allows the frame. Of a header that has VLAN id 0 where it has no C-TAG, as every frame that is
+// read has, this is document 01's test. The address comes first: it tells most entries apart.
 pub fn allows(front: u64, address: u64, vlan: u16, h: Header) -> bool
     ensures { λ r. ⌜ Allows front address vlan h r ⌝ }
 {
-    if front / 256 % 281474976710656 != address {
+    if front / 256 % ADDRESSES != address {
         return false;
     }
     if choice_fits((front % 256) as u8, h.tagged, h.vlan) {

@@ -13,7 +13,7 @@ use Rattle.streams.specs.declared.Found.{Found}
 use Rattle.streams.specs.declared.Found.the-variants.{Refused}
 use lib.ListN.{drop}
 use Rattle.streams.specs.Table.{tableVerdict, foundBy, lookupOf, checkedBy, LooksUp}
-use Rattle.streams.specs.Walk.{verdictFrom, walked, InFrame}
+use Rattle.streams.specs.Walk.{verdictFrom, walked, OfFrame}
 
 -- the verdict that the answer of a check tells
 pub checked-good : (v : Verdict) → Checked.Good ≡ checkedBy v → v ≡ good
@@ -40,9 +40,9 @@ unfolding verdictFrom tableVerdict
 from-the-start t = refl
 
 -- what the header of a good frame has
-pub in-frame : (o : List ℕ) {h : Header} → Reading.Frame h ≡ reading o → InFrame o h
+pub of-frame : (o : List ℕ) {h : Header} → Reading.Frame h ≡ reading o → OfFrame o h
 unfolding header vlan
-in-frame o e =
+of-frame o e =
     let g = frame-good o e in
     record { within = rw (g .1) (payload-within o (g .0)); untagged = rw (g .1) (λ none. rw none refl) }
 

@@ -50,10 +50,13 @@ packet long offset next options =
 udp : List ℕ
 udp = packet 5 0 17 []
 
--- an entry of kind 4 for the receiver, handle 9
+-- an entry of kind 4 for the receiver; one for any tag and VLAN, handle 9
+ipEntryOf : (choice v : ℕ) → (a b : List ℕ) → (code next : ℕ) → (ports : List ℕ) → (handle : ℕ) → List ℕ
+ipEntryOf choice v a b code next ports handle =
+    4 ∷ receiver ++ (choice ∷ 0 ∷ v ∷ []) ++ a ++ b ++ (code ∷ next ∷ []) ++ ports ++ (0 ∷ handle ∷ [])
+
 ipEntry : (a b : List ℕ) → (code next : ℕ) → (ports : List ℕ) → List ℕ
-ipEntry a b code next ports =
-    4 ∷ receiver ++ (3 ∷ 0 ∷ 0 ∷ []) ++ a ++ b ++ (code ∷ next ∷ []) ++ ports ++ (0 ∷ 9 ∷ [])
+ipEntry a b code next ports = ipEntryOf 3 0 a b code next ports 9
 
 any : List ℕ
 any = 0 ∷ 0 ∷ 0 ∷ 0 ∷ []
@@ -105,6 +108,7 @@ rows =
     ∷ row (ipEntry from to 46 3 both) udp NoStream
     ∷ row (ipEntry from to 46 2 (3 ∷ 4 ∷ 1 ∷ 2 ∷ [])) udp NoStream
     ∷ row (ipEntry from to 46 2 (0 ∷ 0 ∷ 3 ∷ 4 ∷ [])) udp (Stream 9)
+    ∷ row (ipEntry from to 46 2 (1 ∷ 2 ∷ 0 ∷ 0 ∷ [])) udp (Stream 9)
     ∷ row (ipEntry from to 46 1 (9 ∷ 9 ∷ 9 ∷ 9 ∷ [])) udp (Stream 9)
     ∷ row (ipEntry from to 46 3 both) (packet 5 0 6 []) (Stream 9)
     ∷ row (ipEntry from to 46 4 both) (packet 5 0 132 []) (Stream 9)
@@ -122,11 +126,16 @@ rows =
     ∷ row (ipEntry any any 255 0 any) udp (Refused 12)
     ∷ row (ipEntry any any 255 5 any) udp (Refused 12)
     ∷ row (take 25 (ipEntry any any 255 1 any)) udp (Refused 11)
+    ∷ row (ipEntryOf 1 0 any any 255 1 any 9) udp NoStream
+    ∷ row (ipEntryOf 3 5 any any 255 1 any 9) udp NoStream
     ∷ row (ipEntry any any 0 1 any ++ entry 1 receiver 3 0 7) udp (Stream 7)
+    ∷ row (ipEntry from to 46 3 both ++ ipEntryOf 3 0 from to 46 2 both 8) udp (Stream 8)
+    ∷ row (ipEntry from to 46 2 both ++ ipEntryOf 3 0 from to 46 2 both 8) udp (Stream 9)
+    ∷ row (ipEntry from to 46 3 both ++ (0 ∷ [])) udp (Refused 10)
     ∷ []
 
 as-listed : map (λ (x : Row). lookupOf (x .table) (x .frame)) rows ≡ map (λ (x : Row). x .answer) rows
-unfolding rows row entry plain inVlan short receiver sender packet udp ipEntry any from to both
+unfolding rows row entry plain inVlan short receiver sender packet udp ipEntryOf ipEntry any from to both
     lookupOf tableVerdict tableChecks entryChecks entries entriesAfter bodyLength kindOf address choice vlanOf handle outOfRange
     ipOutOfRange unfit sourceIp destinationIp dscp protocol sourcePort destinationPort firstMatch
     matches allows choiceAllows addressOf ipAllows ipFits protocolFits portsFit noPort dscpFits zeroOr protocolNumber

@@ -27,7 +27,7 @@ use Rattle.entry.specs.Matching.{allows, addressOf, matches}
 use Rattle.streams.specs.Table.{entries, firstMatch, lookupOf}
 use Rattle.streams.specs.Walk.{walked}
 use Rattle.streams.specs.SameStream.{trailerUnread, SameWhenInserted, SameWhenRemoved}
-use Rattle.streams.proofs.Answered.{in-frame, walk-answers}
+use Rattle.streams.proofs.Answered.{of-frame, walk-answers}
 use Rattle.streams.proofs.Longer.{Longer, same-match}
 
 -- a header with only what an entry asks of a frame
@@ -112,11 +112,11 @@ module _ (t : List ℕ) (e : Encoding) (o : List ℕ) (n id room : ℕ) (accepte
       (λ f.
       rw f
       (ap (firstMatch (entries t) (header o))
-      (moved o with-it (tagPlace o) (header o .payload) (rw f at s) (in-frame o was .within) (omega (arith, tag-before o)))))
+      (moved o with-it (tagPlace o) (header o .payload) (rw f at s) (of-frame o was .within) (omega (arith, tag-before o)))))
       (λ f.
       rw f
       (same-match (payload (header o) o) (payload (header o) with-it)
-      (lengthened o with-it (length o) (header o .payload) (rw f at s) (in-frame o was .within) refl) (entries t) (header o) (rw f at u)))
+      (lengthened o with-it (length o) (header o .payload) (rw f at s) (of-frame o was .within) refl) (entries t) (header o) (rw f at u)))
 
 -- and of one with six octets taken off
 module _ (t : List ℕ) (e : Encoding) (o : List ℕ) (room : ℕ) (accepted : verdict (removeChecks e o room) ≡ good) where
@@ -130,7 +130,7 @@ module _ (t : List ℕ) (e : Encoding) (o : List ℕ) (room : ℕ) (accepted : v
   found-removed was is u =
       let s = unsplice e o room accepted in
       let own = frame-good without is .1 in
-      let within = in-frame without is .within in
+      let within = of-frame without is .within in
       by-cases (inFront e)
       (λ f.
       let behind = behind-tag o (there e o room accepted f) in

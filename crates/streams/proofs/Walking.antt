@@ -14,7 +14,8 @@ use Rattle.octets.proofs.Taken.{first-octet, last-octet, middle-six, octet-in, 
 use Rattle.frame.specs.declared.Header.{Header}
 use Rattle.entry.specs.Contents.{kind, bodyLength, address, choice, vlan, handle, dscp, protocol, outOfRange, ipOutOfRange, unfit}
 use Rattle.entry.specs.Ip.{ipAllows}
-use Rattle.entry.specs.Matching.{allows, addressOf, matches, Untagged, allowsBy}
+use Rattle.entry.specs.Matching.{allows, addressOf, matches}
+use Rattle.entry.specs.Front.{NoTagNoVlan, allowsBy}
 use Rattle.entry.proofs.Front.{allows-front}
 use Rattle.streams.specs.declared.Found.the-variants.{NoStream}
 use Rattle.streams.specs.declared.table.Sought.the-variants.{Match, Packet, Rest}
@@ -119,7 +120,7 @@ module _ (t : List ℕ) (h : Header) (before from : ℕ) {front passed at : ℕ}
             rw n (word16-in t at (suc body) (body - 1) (omega arith))
 
         -- the test of every kind, by the front
-        pub allowed : Untagged h
+        pub allowed : NoTagNoVlan h
             → allowsBy front (addressOf (front / 72057594037927936) h) (be16 t (at + 8)) h ≡ allows e (addressOf (kind e) h) h
         unfolding address
         allowed none =
@@ -189,7 +190,7 @@ module _ (t : List ℕ) (h : Header) (before from : ℕ) {front passed at : ℕ}
       ip = kind-e 25 b least ∙ is-ip _ b
 
       -- it asks for the destination
-      pub allowed-ip : Untagged h
+      pub allowed-ip : NoTagNoVlan h
           → allowsBy front (h .destination) (be16 t (at + 8)) h ≡ allows (entryAt t at 25) (addressOf (kind (entryAt t at 25)) h) h
       unfolding addressOf
       allowed-ip none = rw (is-ip _ b) at (allowed 25 b least none)

@@ -10,7 +10,7 @@ use Rattle.octets.specs.Number.{be16, be64}
 use Rattle.octets.specs.Checks.{Verdict, verdict}
 use Rattle.frame.specs.declared.Header.{Header}
 use Rattle.entry.specs.Ip.{ipAllows}
-use Rattle.entry.specs.Matching.{Untagged}
+use Rattle.entry.specs.Front.{NoTagNoVlan}
 use Rattle.streams.specs.declared.Found.{Found}
 use Rattle.streams.specs.declared.Found.the-variants.{Stream, NoStream}
 use Rattle.streams.specs.declared.table.Sought.{Sought}
@@ -21,7 +21,7 @@ use Rattle.streams.specs.Table.{entries, tableChecks, firstMatch, foundB
 unfoldable pub verdictFrom : List ℕ → (before at : ℕ) → Verdict
 verdictFrom t before at = verdict (tableChecks before (entries (drop at t)))
 
--- `walk`, from a place on: the refusal of the entries there, or else the first match
+-- a walk from a place on (`walk`: from the first entry): the refusal of the entries there, or else the first match
 unfoldable pub walked : List ℕ → Header → List ℕ → (before at : ℕ) → Found
 walked t h p before at = foundBy (verdictFrom t before at) (firstMatch (entries (drop at t)) h p)
 
@@ -40,16 +40,16 @@ comesTo t h p (Match at before) = matchedAt t before at 11
 comesTo t h p (Packet at before) = packetAt t h p before at
 comesTo t h p (Rest at before) = foundBy (verdictFrom t before at) NoStream
 
--- the entry at a place is there with all of its body, and it is not the 257th
-pub record Whole (t : List ℕ) (at before body : ℕ) : Type 0 where
+-- the octets of an entry with a body of that length are there, the body is not empty, and the entry is not the 257th
+pub record There (t : List ℕ) (at before body : ℕ) : Type 0 where
   pub some : 1 ≤ body
   pub there : at + (1 + body) ≤ length t
   pub few : before < 256
 
--- it stops at such an entry, behind where it began
+-- where it stops at an entry that is so; one of kind 4 is not before where it began, so that a loop over them ends
 abbrev pub Stops : List ℕ → (from : ℕ) → Sought → Type 0
-Stops t from (Match at before) = Whole t at before 11
-Stops t from (Packet at before) = (from ≤ at) × Whole t at before 25
+Stops t from (Match at before) = There t at before 11
+Stops t from (Packet at before) = (from ≤ at) × There t at before 25
 Stops t from (Rest at before) = Unit {0}
 
 -- whatever the payload, what comes of it is what a walk from where it began comes to
@@ -58,9 +58,9 @@ pub record Seeks (t : List ℕ) (h : Header) (before at : ℕ) (r : Sought) : Ty
   pub stops : Stops t at r
 
 -- what `walk` and `among_packets` ask of a header: that its payload starts within the frame, and of a frame without C-TAG the VLAN id 0
-pub record InFrame (o : List ℕ) (h : Header) : Type 0 where
+pub record OfFrame (o : List ℕ) (h : Header) : Type 0 where
   pub within : h .payload ≤ length o
-  pub untagged : Untagged h
+  pub untagged : NoTagNoVlan h
 
 -- `front_at`: the first eight octets of an entry as one number, where there is room for the shortest one
 unfoldable pub frontAt : List ℕ → ℕ → ℕ

@@ -9,9 +9,9 @@ use frame::Reading;
 ghost use mathlib.Core.Path.{_≡_};
 ghost use Prim.Native.Nat.{_≤_};
 ghost use lib.ListN.{length, drop};
-ghost use Rattle.entry.specs.Matching.{Untagged};
+ghost use Rattle.entry.specs.Front.{NoTagNoVlan};
 ghost use Rattle.streams.specs.Table.{checkedBy, foundBy, ChecksTable, LooksUp};
-ghost use Rattle.streams.specs.Walk.{verdictFrom, walked, matchedAt, packetAt, Whole, Seeks, InFrame, frontAt};
+ghost use Rattle.streams.specs.Walk.{verdictFrom, walked, matchedAt, packetAt, There, Seeks, OfFrame, frontAt};
 
 // Where a search for the frame's address, tag and VLAN stops: the place of an entry, and how many stand before it.
 enum Sought {
@@ -25,6 +25,9 @@ enum Sought {
 
 // "At most 256 entries".
 const MOST: usize = 256;
+
+// 2 to the 56: in a front the kind stands above seven octets.
+const KIND: u64 = 72057594037927936;
 
 // The table's verdict alone.
 pub fn check(table: &[u8]) -> Checked
@@ -45,7 +48,7 @@ pub fn lookup(table: &[u8], frame: &[u8]) -> Found
 
 // The stream of a frame with this header.
 fn walk(table: &[u8], frame: &[u8], h: Header) -> Found
-    requires { ⌜ InFrame (now frame) h ⌝ }
+    requires { ⌜ OfFrame (now frame) h ⌝ }
     ensures { λ r. ⌜ r ≡ walked (now (table .entry)) h (drop (h .payload) (now (frame .entry))) 0 0 ⌝ }
 {
     match seek(table, h, 0, 0) {
@@ -58,7 +61,7 @@ fn walk(table: &[u8], frame: &[u8], h: Header) -> Found
 // The walk from an entry on that asks for a packet. It is a loop of its own: so a walk over kinds 1 and 2 makes no packet ready, and one
 // over kind 4 reads it once.
 fn among_packets(table: &[u8], frame: &[u8], h: Header, from: usize, count: usize) -> Found
-    requires { ⌜ InFrame (now frame) h × Whole (now table) from count 25 ⌝ }
+    requires { ⌜ OfFrame (now frame) h × There (now table) from count 25 ⌝ }
     ensures { λ r. ⌜ r ≡ packetAt (now (table .entry)) h (drop (h .payload) (now (frame .entry))) count from ⌝ }
 {
     let payload = h.payload;
@@ -82,7 +85,7 @@ fn among_packets(table: &[u8], frame: &[u8], h: Header, from: usize, count: usiz
 
 // The answer at an entry that matches: the handle is the last of its body.
 fn matched(table: &[u8], at: usize, passed: usize, body: usize) -> Found
-    requires { ⌜ Whole (now table) at passed body ⌝ }
+    requires { ⌜ There (now table) at passed body ⌝ }
     ensures { λ r. ⌜ r ≡ matchedAt (now (table .entry)) passed at body ⌝ }
 {
     let handle = octets::word16(table, at + (body - 1));
@@ -93,9 +96,9 @@ fn matched(table: &[u8], at: usize, passed: usize, body: usize) -> Found
 // knows the numbers.
 //
 // The front of an entry, its first eight octets as one number, is read at the end of the turn before: so it is one load to the compiler,
-// which else reads the octets that are tested by themselves. For the same reason each length of a body ends the turn by itself.
+// which would else read each octet that is tested by a load of its own. For the same reason each length of a body ends the turn by itself.
 fn seek(table: &[u8], h: Header, from: usize, count: usize) -> Sought
-    requires { ⌜ (from ≤ length (now table)) × Untagged h ⌝ }
+    requires { ⌜ (from ≤ length (now table)) × NoTagNoVlan h ⌝ }
     ensures { λ r. ⌜ Seeks (now (table .entry)) h count from r ⌝ }
 {
     let n = table.len();
@@ -107,7 +110,7 @@ fn seek(table: &[u8], h: Header, from: usize, count: usize) -> Sought
             break;
         }
         let vlan = octets::word16(table, at + 8);
-        let kind = (front / 72057594037927936) as u8;
+        let kind = (front / KIND) as u8;
         match entry::body_length(kind) {
             11 => {
                 if entry::out_of_range((front % 256) as u8, vlan) {
@@ -131,6 +134,7 @@ fn seek(table: &[u8], h: Header, from: usize, count: usize) -> Sought
                 if entry::ip_out_of_range(table[at + 18], table[at + 19]) {
                     break;
                 }
+                // kind 4 asks for the destination
                 if entry::allows(front, h.destination, vlan, h) {
                     return Sought::Packet(at, passed);
                 }

@@ -57,10 +57,10 @@ returns-4 c =
     let whole = tested .before .before in
     let first = whole .before .before .before .before in
     let start = first .before .before .args in
-    let decided : false ≡ zeroOr (start .source) (be16 (start .packet .now) (start .ip .ports))
-    && zeroOr (start .destination) (be16 (start .packet .now) (start .ip .ports + 2))
+    let decided : false ≡ zeroOr (start .source) (be16 (start .payload .now) (start .ip .ports))
+    && zeroOr (start .destination) (be16 (start .payload .now) (start .ip .ports + 2))
     = simp (← tested .before .word16 .ensures, said-no (tested .zero-or .ensures) (c .if4 .taken)) in
-    decided ∙ with-room (start .source) (start .destination) (start .ip) (start .packet .now) (first .if1 .left) (omega arith)
+    decided ∙ with-room (start .source) (start .destination) (start .ip) (start .payload .now) (first .if1 .left) (omega arith)
 
 -- the destination port decides
 returns-5 : tie.Need-returns-5
@@ -70,15 +70,15 @@ returns-5 c =
     let whole = tested .before .before in
     let first = whole .before .before .before .before in
     let start = first .before .before .args in
-    let decided : c .zero-or2 .result ≡ zeroOr (start .source) (be16 (start .packet .now) (start .ip .ports))
-    && zeroOr (start .destination) (be16 (start .packet .now) (start .ip .ports + 2))
+    let decided : c .zero-or2 .result ≡ zeroOr (start .source) (be16 (start .payload .now) (start .ip .ports))
+    && zeroOr (start .destination) (be16 (start .payload .now) (start .ip .ports + 2))
     = simp (
       c .zero-or2 .ensures,
       ← tested .before .word16 .ensures,
       said-yes (tested .zero-or .ensures) (same .if4 .left),
       ← c .before .word162 .ensures,
     ) in
-    decided ∙ with-room (start .source) (start .destination) (start .ip) (start .packet .now) (first .if1 .left) (omega arith)
+    decided ∙ with-room (start .source) (start .destination) (start .ip) (start .payload .now) (first .if1 .left) (omega arith)
 
 pub ports-fit-spec : {M : Type 1} → statement M
 ports-fit-spec =

@@ -3,7 +3,7 @@ use Prim.Native.Nat.{_/_, _%_}
 use mathlib.Core.Path.{_∙_, sym}
 use borrow.Author.Needs.{needs}
 use borrow.Author.Tests.{eq-eqb, ne-eqb}
-use Rattle.entry.specs.Matching.{allowsBy}
+use Rattle.entry.specs.Front.{allowsBy}
 use Rattle.entry.proofs.matching.allows.Statement.{statement}
 use Rattle.entry.proofs.matching.allows.Tie as tie
 

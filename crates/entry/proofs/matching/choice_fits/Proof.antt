@@ -1,7 +1,7 @@
 -- `entry::matching::choice_fits` meets its promise, choice by choice. Assumes nothing.
 use mathlib.Core.Bool.{or-false}
 use borrow.Author.Tests.{ne-eqb}
-use Rattle.entry.specs.Matching.{choiceFits}
+use Rattle.entry.specs.Front.{choiceFits}
 use Rattle.entry.proofs.matching.choice_fits.Statement.{statement}
 use Rattle.entry.proofs.matching.choice_fits.Tie as tie
 

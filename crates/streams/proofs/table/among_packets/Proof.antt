@@ -11,14 +11,16 @@ use Rattle.frame.specs.declared.Header.{Header}
 use Rattle.ipv4.specs.declared.Reading.{Reading}
 use Rattle.entry.specs.Ip.{fitsAs, ipAllows, packetOf}
 use Rattle.entry.proofs.Packet.{read-once}
-use Rattle.streams.specs.Walk.{walked, matchedAt, packetAt, Whole}
+use Rattle.streams.specs.declared.Found.the-variants.{NoStream}
+use Rattle.streams.specs.Table.{foundBy}
+use Rattle.streams.specs.Walk.{verdictFrom, walked, matchedAt, packetAt, There, Seeks}
 use Rattle.streams.proofs.table.among_packets.Statement.{statement}
 use Rattle.streams.proofs.table.among_packets.Tie as tie
 
 -- what comes of the entry at `at` comes of the first one
 abbrev Inv-loop : tie.InvT-loop
 Inv-loop table frame h from count payload packet at₀ passed₀ at passed =
-    Whole table at passed 25 × (packetAt table h (drop (h .payload) frame) passed at ≡ packetAt table h (drop (h .payload) frame) count from)
+    There table at passed 25 × (packetAt table h (drop (h .payload) frame) passed at ≡ packetAt table h (drop (h .payload) frame) count from)
 
 -- the measure: what is left of the table
 abbrev μ-loop : tie.MeasureT-loop
@@ -75,37 +77,43 @@ seek-requires c κs =
     let loop = c .before .before .before .before in
     (omega (arith, loop .loop .inv .0 .there), loop .before .before .before .before .before .pre .0 .untagged)
 
+-- where the search behind the entry stops
+behind : (c : tie.After-seek Inv-loop μ-loop)
+    → let loop = c .before .before .before .before .before in
+    let start = loop .before .before .before .before .before .args in
+    Seeks (start .table .now) (start .h) (loop .loop .passed + 1) (loop .loop .at + 26) (c .seek .result)
+behind c = c .seek .ensures
+
 -- an entry of kind 1 or 2
 matched-requires-2 : tie.Need-matched-requires-2 Inv-loop μ-loop
-matched-requires-2 c κs =
-    let stop = c .before in
-    (rw (stop .next .given .1) at (stop .before .before .seek .ensures)) .stops
+matched-requires-2 c κs = let stop = c .before in (rw (stop .next .given .1) at (behind (stop .before .before))) .stops
 
 returns-2 : tie.Need-returns-2 Inv-loop μ-loop
 returns-2 c =
     let stop = c .before .before in
     let sought = stop .before .before in
-    c .matched2 .ensures ∙ (rw (stop .next .given .1) at (sought .seek .ensures)) .comes _ ∙ goes-on (sought .before)
+    c .matched2 .ensures ∙ (rw (stop .next .given .1) at (behind sought)) .comes _ ∙ goes-on (sought .before)
 
 -- another of kind 4
 loop-less : tie.Need-loop-less Inv-loop μ-loop
-loop-less c =
-    let stop = c .before in
-    omega (arith, (rw (stop .next2 .given .1) at (stop .before .before .seek .ensures)) .stops)
+loop-less c = let stop = c .before in omega (arith, (rw (stop .next2 .given .1) at (behind (stop .before .before))) .stops)
 
 loop-again : tie.Need-loop-again Inv-loop μ-loop
 loop-again c =
     let stop = c .before in
     let sought = stop .before .before in
-    let sought-there = rw (stop .next2 .given .1) at (sought .seek .ensures) in
-    (sought-there .stops .1, sought-there .comes _ ∙ goes-on (sought .before))
+    let next = rw (stop .next2 .given .1) at (behind sought) in
+    (next .stops .1, next .comes _ ∙ goes-on (sought .before))
 
 -- a fault, or the end
 returns-3 : tie.Need-returns-3 Inv-loop μ-loop
 returns-3 c =
     let stop = c .before .before in
     let sought = stop .before .before in
-    c .settled .ensures ∙ (rw (stop .next3 .given .1) at (sought .seek .ensures)) .comes _ ∙ goes-on (sought .before)
+    let table = sought .before .before .before .before .before .before .before .before .before .before .args .table .now in
+    let place = stop .next3 .given .0 in
+    let none : c .settled .result ≡ foundBy (verdictFrom table (place .1 .0) (place .0)) NoStream = c .settled .ensures in
+    none ∙ (rw (stop .next3 .given .1) at (behind sought)) .comes _ ∙ goes-on (sought .before)
 
 pub among-packets-spec : {M : Type 1} → statement M
 among-packets-spec {M} =

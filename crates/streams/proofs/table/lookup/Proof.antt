@@ -2,13 +2,13 @@
 -- Assumes nothing.
 use mathlib.Core.Path.{sym, _∙_}
 use borrow.Author.Needs.{needs}
-use Rattle.streams.proofs.Answered.{walk-answers, frame-refused, in-frame}
+use Rattle.streams.proofs.Answered.{walk-answers, frame-refused, of-frame}
 use Rattle.streams.proofs.table.lookup.Statement.{statement}
 use Rattle.streams.proofs.table.lookup.Tie as tie
 
 walk-requires : tie.Need-walk-requires
 walk-requires c κs =
-    let at-h = c .before in in-frame _ (sym (at-h .h .given .1) ∙ at-h .before .before .read .ensures)
+    let at-h = c .before in of-frame _ (sym (at-h .h .given .1) ∙ at-h .before .before .read .ensures)
 
 -- a good frame
 returns : tie.Need-returns
