@@ -19,6 +19,10 @@ module _ (src out : List ℕ) where
   pub without_room : length out < length src → Puts src out false out
   without_room none = record { answer = sym (lt-leb _ _ none); buffer = simp (lt-leb _ _ none) }
 
+-- all of a source, put at the start
+pub all_copied : (src out : List ℕ) {later : List ℕ} → later ≡ take (length src) src ++ drop (length src) out → later ≡ put_in src out
+all_copied src out e = simp (e, take-length)
+
 -- the part from a place to the end, as the logic has it
 pub to_end : (at : ℕ) (l : List ℕ) → take (length l - at) (drop at l) ≡ drop at l
 to_end at l = take_all (length l - at) (drop at l) (omega (arith, length-drop at l))

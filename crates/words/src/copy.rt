@@ -2,7 +2,7 @@
 ghost use Rattle.octets.specs.Copy.{Puts};
 
 // Copies all of `src` to the start of `out`, and says whether there was room. Without room `out` stays as it is. The promise is that of
-// `octets::put`, and `Puts-one` of `octets` is its uniqueness law.
+// `octets::put`, and `puts_one` of `octets` is its uniqueness law.
 pub fn put(src: &[u64], out: &mut [u64]) -> bool
     ensures { Puts src.now out.old result out.new }
 {

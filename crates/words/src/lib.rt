@@ -4,6 +4,8 @@
 // What the answer of a call that can refuse means, at every door: it is one number. 0 is done, 1 to 99 is the papers' refusal ("When the
 // layer says no"), and from 100 on it names an answer of the call. Whatever lengths and values come in, a call answers or refuses, and a
 // refusal leaves everything lent as it was.
+#![tactic(auto)]
+
 mod copy;
 
 pub use copy::put;
