@@ -8,7 +8,7 @@ use lib.ListN.{get_or, length-append, replicate, length-replicate, replicate-app
 use Rattle.crc.specs.Bits.{bits_of, sent, zeros, ◌⊕◌}
 use Rattle.crc.specs.Division.{divide}
 use Rattle.crc.specs.Tables.{steps, table, slice, left, through, SlicesOfTable}
-use Rattle.crc.proofs.Rows.{by-rule, eight-steps}
+use Rattle.crc.proofs.Rows.{by-rule, eight_steps}
 use Rattle.crc.proofs.Steps.{divide_add}
 use Rattle.crc.proofs.Numbers.{bits_zero, bits_padded, same_bits}
 use Rattle.crc.proofs.Sliced.{bits_steps, steps_below, steps_above}
@@ -29,7 +29,7 @@ unfolding left
 zeros_left k i h =
     let behind = zeros k ++ zeros 32 in
     let first : divide 8 (bits_of 8 i ++ zeros 32) ≡ bits_of 32 (get_or table i 0)
-    = sym (ap (bits_of 32) (eight-steps i h) ∙ bits_steps 8 i) in
+    = sym (ap (bits_of 32) (eight_steps i h) ∙ bits_steps 8 i) in
     bits_steps (8 + k) i
     ∙ ap (λ (l : List Bool). divide (8 + k) (l ++ zeros 32)) (bits_padded 8 k i h)
     ∙ ap (divide (8 + k)) (append_assoc (bits_of 8 i) (zeros k) (zeros 32))

@@ -6,7 +6,7 @@ use mathlib.Core.Path.{◌≡◌, refl, sym, ap, ap₂, ◌∙◌}
 use mathlib.Core.Bool.{Bool, not}
 use mathlib.Core.List.{List, [], ◌∷◌, ◌++◌, append_assoc, map}
 use lib.ListN.{length, take, drop, get_or, length-append, length-map, take-append-drop}
-use lib.Seq.{take-add}
+use lib.Seq.{take-add, take_all}
 use lib.Bits.{bit_xor, xor_shr, xor_zero_r, xor_lt}
 use lib.Pow.{shr_le, pow_mono}
 use Rattle.crc.specs.Bits.{bits_of, number_of, sent, zeros, ones, ◌⊕◌}
@@ -17,7 +17,7 @@ use Rattle.crc.proofs.Steps.{divide_add, divide_over, length_divide}
 use Rattle.crc.proofs.Numbers.{length_bits, bits_split, bits_padded, bits_xor, bits_number, number_bits, number_below, number_not}
 use Rattle.crc.proofs.Sliced.{bits_steps, steps_below, steps_low}
 use Rattle.crc.proofs.LowFirst.{sent_append, low_one}
-use Rattle.crc.proofs.Rows.{eight-steps}
+use Rattle.crc.proofs.Rows.{eight_steps}
 
 -- bits behind bits
 pub left_append : (r m n : List Bool) → left r (m ++ n) ≡ left (left r m) n
@@ -118,7 +118,7 @@ pub octet_more : (c : ℕ) (o : List ℕ) (at : ℕ) → at < length o → get_o
 octet_more c o at p q =
     let before = through c (take at o) in
     let word = bit_xor before (get_or o at 0) in
-    ap (λ (n : ℕ). bit_xor n (before / 256)) (eight-steps (word % 256) (omega arith) ∙ steps_low 8 word)
+    ap (λ (n : ℕ). bit_xor n (before / 256)) (eight_steps (word % 256) (omega arith) ∙ steps_low 8 word)
     ∙ sym (through_more 1 c o at (get_or o at 0) q (low_one o at p))
 
 -- four octets or more, by all their steps: no bit of the register before them is left
@@ -130,6 +130,14 @@ word_more n c o at x h p q =
     = div-eq_of_lt (lt_of_lt_of_le (through_below c (take at o)) (pow_mono {i = 32} {j = 8 * n} (omega arith))) in
     let all = steps (8 * n) (bit_xor before x) in
     sym (through_more n c o at x p q ∙ ap (bit_xor all) none ∙ xor_zero_r all)
+
+-- four octets at the end
+pub four_left : (c : ℕ) (o : List ℕ) (at x past : ℕ) → past ≡ through c (take at o) → length o ≤ at + 4 → x < 2 ^ 32 → Low 4 o at x
+    → steps 32 (bit_xor past x) ≡ through c o
+four_left c o at x past e h below low =
+    ap (λ (n : ℕ). steps 32 (bit_xor n x)) e
+    ∙ word_more 4 c o at x (omega arith) below low
+    ∙ ap (through c) (take_all (at + 4) o h)
 
 -- the check is what the register lacks of all ones, having begun with them; in two parts, since the octets go through it so
 pub in_two_parts : (o : List ℕ) (n : ℕ) → 4294967295 - through (through 4294967295 (take n o)) (drop n o) ≡ crc o

@@ -31,5 +31,5 @@ from rule i (suc n) (suc k) h = from rule (suc i) n k (le_of_suc-le-suc h) ∙ a
 pub by-rule : (rule : ℕ → ℕ) (n k : ℕ) → k < n → get_or (row rule 0 n) k 0 ≡ rule k
 by-rule rule n k h = from rule 0 n k h ∙ ap rule (zero-add k)
 
-pub eight-steps : EightSteps
-eight-steps = by-rule (steps 8) 256
+pub eight_steps : EightSteps
+eight_steps = by-rule (steps 8) 256

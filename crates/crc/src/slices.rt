@@ -48,6 +48,7 @@ fn half_steps() -> [u32; 256]
 }
 
 // What the register becomes by octets whose count four divides: eight at a time, and four where so many are left.
+#[tactic(auto, using(crate::proofs::Register::four_left))]
 pub fn by_words(register: u32, octets: &[u8]) -> u32
     requires { length octets.now % 4 ≡ 0 }
     ensures { result ≡ through register octets.now }

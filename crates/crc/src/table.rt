@@ -45,6 +45,7 @@ fn eight_steps() -> [u32; 256]
 }
 
 // What the register becomes by octets.
+#[tactic(auto, using(crate::proofs::Register::nothing_through))]
 pub fn by_octets(register: u32, octets: &[u8]) -> u32
     ensures { result ≡ through register octets.now }
 {

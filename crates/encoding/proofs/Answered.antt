@@ -5,7 +5,6 @@ use mathlib.Core.List.{List}
 use Rattle.octets.proofs.Bools.{by_cases}
 use Rattle.frame.specs.declared.Header.{Header}
 use Rattle.frame.specs.declared.Reading.{Reading}
-use Rattle.frame.specs.declared.Reading.TheVariants as Reading
 use Rattle.frame.specs.Reader.{reading}
 use Rattle.encoding.specs.declared.Encoding.{Encoding}
 use Rattle.encoding.specs.declared.Sequence.{Sequence}

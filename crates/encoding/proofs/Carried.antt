@@ -16,7 +16,7 @@ use Rattle.frame.specs.declared.Reading.TheVariants.{Frame}
 use Rattle.frame.specs.Layout.{tag_place, announces, sequenced, announced, number, payload_place, payload_length}
 use Rattle.frame.specs.Reader.{checks, header, reading}
 use Rattle.frame.proofs.Verdicts.{place_bounds}
-use Rattle.frame.proofs.Accepted.{frame_good, payload_tagged, payload_bare, good_before, behind_tag}
+use Rattle.frame.proofs.Accepted.{starts_within, frame_good, payload_tagged, payload_bare, good_before, behind_tag}
 use Rattle.encoding.specs.declared.Encoding.{Encoding}
 use Rattle.encoding.specs.declared.Encoding.TheVariants.{RTag, Hsr, Prp}
 use Rattle.encoding.specs.Encodings.{in_front, place, mark, trails, carries, standing, number_at}
@@ -132,3 +132,13 @@ pub stands_at : (e : Encoding) (o : List ℕ) {h : Header} → Frame h ≡ readi
 unfolding place standing
 stands_at e o r c =
     by_cases (in_front e) (λ f. rw f (omega (arith, starts o r, payload_tagged o (carried_sequenced e o f c)))) (λ f. rw f)
+
+-- where both places are so low, so is the one that an encoding has
+pub place_below : (e : Encoding) {front back most : ℕ} → front ≤ most → back ≤ most → place e front back ≤ most
+unfolding place
+place_below e f b = by_cases (in_front e) (λ t. rw t f) (λ t. rw t b)
+
+-- what the proofs of reading rest on
+pub ruleset of_carries = (starts_within, mark_announces, carries_front, carries_back, told_by, is_announced, payload_octets)
+
+pub ruleset of_sequence = (starts_within, far, number_stands, stands_at, standing_within)

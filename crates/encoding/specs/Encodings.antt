@@ -27,7 +27,7 @@ mark Prp = 0x88FB
 unfoldable pub id_and_size : (id size : ℕ) → ℕ
 id_and_size id size = id % 16 * 4096 + size % 4096
 
--- that word in each encoding; the R_TAG has "two reserved octets" there, and they "are written zero"
+-- that word in each encoding; the R-TAG has "two reserved octets" there, and they "are written zero"
 unfoldable pub id_word : Encoding → (id size : ℕ) → ℕ
 id_word RTag id size = 0
 id_word Hsr id size = id_and_size id size
@@ -65,7 +65,7 @@ standing e o = place e (tag_place o) (length o - tag_length)
 unfoldable pub number_at : Encoding → ℕ
 number_at e = cond (in_front e) 4 0
 
--- the path or LAN id that the word between says; under the R_TAG "Reserved octets are .. ignored on reading"
+-- the path or LAN id that the word between says; under the R-TAG "Reserved octets are .. ignored on reading"
 unfoldable pub id_in : Encoding → ℕ → ℕ
 id_in RTag word = 0
 id_in Hsr word = word / 4096

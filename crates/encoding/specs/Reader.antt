@@ -1,7 +1,6 @@
 -- Reading a frame in the encoding of its stream (document 02, CR 5). Assumes nothing.
 use Rattle.std.specs.Prelude.{ℕ, ◌≡◌, List}
 use Rattle.frame.specs.declared.Reading.{Reading}
-use Rattle.frame.specs.declared.Reading.TheVariants as Reading
 use Rattle.frame.specs.Reader.{reading}
 use Rattle.encoding.specs.declared.Encoding.{Encoding}
 use Rattle.encoding.specs.declared.Sequence.{Sequence}

@@ -1,13 +1,15 @@
 // The number of a frame in the encoding of its stream (document 02, CR 5): an R-TAG, an HSR tag or a PRP trailer.
 //
 // The caller chooses the encoding for each stream. Whatever octets come in, a reading answers or refuses by document 01's number.
+#![tactic(auto)]
+
 mod reader;
 mod six;
 
 pub use reader::read;
 pub use six::{in_front, mark, octets_of, place};
 
-#[derive(Drop)]
+#[derive(Clone, Copy)]
 pub enum Encoding {
     RTag,
     Hsr,

@@ -10,6 +10,7 @@ use crate::{Encoding, Packet, Sequence};
 use frame::{Header, Reading};
 
 // Everything about a frame, with the number that it carries in the encoding of its stream.
+#[tactic(auto, unfolding(crate::specs::Reader::reading_in))]
 pub fn read(frame: &[u8], encoding: Encoding) -> Packet
     ensures { ReadsIn encoding frame.now result }
 {
@@ -23,6 +24,7 @@ pub fn read(frame: &[u8], encoding: Encoding) -> Packet
 }
 
 // What a frame that was read carries.
+#[tactic(auto, using(crate::proofs::Carried::of_sequence), unfolding(crate::specs::Encodings::sequence))]
 fn sequence(frame: &[u8], encoding: Encoding, h: Header) -> Sequence
     requires { Reading.Frame h ≡ reading frame.now }
     ensures { result ≡ sequence encoding frame.now }
@@ -44,6 +46,7 @@ fn sequence(frame: &[u8], encoding: Encoding, h: Header) -> Sequence
 }
 
 // Whether it carries a number.
+#[tactic(auto, using(crate::proofs::Carried::of_carries))]
 fn carries(frame: &[u8], encoding: Encoding, h: Header) -> bool
     requires { Reading.Frame h ≡ reading frame.now }
     ensures { result ≡ carries encoding frame.now }
@@ -55,6 +58,7 @@ fn carries(frame: &[u8], encoding: Encoding, h: Header) -> bool
 }
 
 // Whether the last six octets of a payload of so many are a trailer with that suffix.
+#[tactic(auto, unfolding(crate::specs::Encodings::trails))]
 fn trails(frame: &[u8], suffix: u16, payload: usize) -> bool
     requires { payload ≤ length frame.now }
     ensures { result ≡ trails frame.now suffix payload }
@@ -80,6 +84,7 @@ fn number_at(frame: &[u8], encoding: Encoding, at: usize, tag: u16) -> u16
 }
 
 // The path or LAN id, from the word that it shares with the size.
+#[tactic(auto, unfolding(crate::specs::Encodings::id_in))]
 fn id_in(encoding: Encoding, word: u16) -> u8
     ensures { result ≡ id_in encoding word }
 {

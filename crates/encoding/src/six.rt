@@ -5,6 +5,7 @@ ghost use Rattle.encoding.specs.Encodings.{InFront, Stands, Makes, Marks, id_wor
 use crate::Encoding;
 
 // Whether they stand at the tag's place; else they are the last six of the frame.
+#[tactic(auto, unfolding(crate::specs::Encodings::in_front))]
 pub fn in_front(encoding: Encoding) -> bool
     ensures { InFront encoding result }
 {
@@ -16,6 +17,7 @@ pub fn in_front(encoding: Encoding) -> bool
 }
 
 // Where they stand, of the tag's place and the place of the last six.
+#[tactic(auto, unfolding(crate::specs::Encodings::place))]
 pub fn place(encoding: Encoding, front: usize, back: usize) -> usize
     ensures { Stands encoding front back result }
 {
@@ -23,6 +25,7 @@ pub fn place(encoding: Encoding, front: usize, back: usize) -> usize
 }
 
 // What they are: a tag's words, or those of the trailer the other way round.
+#[tactic(auto, unfolding(crate::specs::Encodings::words, crate::specs::Encodings::as_octets, crate::specs::Encodings::six))]
 pub fn octets_of(encoding: Encoding, number: u16, path: u8, size: u16) -> [u8; 6]
     ensures { Makes encoding number path size result }
 {
@@ -42,6 +45,7 @@ pub fn octets_of(encoding: Encoding, number: u16, path: u8, size: u16) -> [u8; 6
 }
 
 // The word that tells the encoding: a tag's type, or the trailer's suffix.
+#[tactic(auto, unfolding(crate::specs::Encodings::mark))]
 pub fn mark(encoding: Encoding) -> u16
     ensures { Marks encoding result }
 {
@@ -53,6 +57,7 @@ pub fn mark(encoding: Encoding) -> u16
 }
 
 // The word that the path or LAN id and the size stand in.
+#[tactic(auto, unfolding(crate::specs::Encodings::id_word))]
 fn id_word(encoding: Encoding, path: u8, size: u16) -> u16
     ensures { result ≡ id_word encoding path size }
 {
@@ -63,6 +68,7 @@ fn id_word(encoding: Encoding, path: u8, size: u16) -> u16
     }
 }
 
+#[tactic(auto, unfolding(crate::specs::Encodings::id_and_size))]
 fn id_and_size(path: u8, size: u16) -> u16
     ensures { result ≡ id_and_size path size }
 {

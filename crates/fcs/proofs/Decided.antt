@@ -58,6 +58,13 @@ module _ (o : List ℕ) (e : verdict (checks o) ≡ good) where
       let rest = (clear (ltb 1526 (length o)) 2 _ (clear (ltb (length o) 18) 1 _ e).1).1 in
       same_rows (check_of o) (low_first (crc (frame_of o))) (not-false right (clear (not right) 28 [] rest).0)
 
+-- so where the answer is 0
+pub good_least : (o : List ℕ) {r : ℕ} → Checks o r → r ≡ 0 → 18 ≤ length o
+good_least o e z = accepted_least o (accepted o (rw z at e))
+
+pub good_part : (o : List ℕ) {r : ℕ} → Checks o r → r ≡ 0 → part_by (verdict (checks o)) o ≡ frame_of o
+good_part o e z = rw (accepted o (rw z at e)) refl
+
 nothing_of : (v : Verdict) (o : List ℕ) → (refusal v ≡ 0 → ⊥) → part_by v o ≡ []
 nothing_of good o n = absurd (n refl)
 nothing_of (refuse k) o n = refl
@@ -74,23 +81,34 @@ pub length_appended : (o : List ℕ) → length (appended o) ≡ length o + 4
 unfolding appended
 length_appended o = rw (length-append o (low_first (crc o)), length_low (crc o))
 
+-- the verdict on a frame that is to get its check
+module _ (o : List ℕ) (room : ℕ) where
+  pub judged_short : length o < 14 → verdict (append_checks o room) ≡ refuse 1
+  unfolding append_checks verdict
+  judged_short h = simp (lt-ltb _ _ h)
+
+  pub judged_long : 14 ≤ length o → 1522 < length o → verdict (append_checks o room) ≡ refuse 2
+  unfolding append_checks verdict
+  judged_long least h = simp (le-ltb _ _ least, lt-ltb _ _ h)
+
+  pub judged_no_room : 14 ≤ length o → length o ≤ 1522 → room < length o + 4 → verdict (append_checks o room) ≡ refuse 8
+  unfolding append_checks verdict
+  judged_no_room least most h = simp (le-ltb _ _ least, le-ltb _ _ most, lt-ltb _ _ h)
+
 module _ (o out : List ℕ) where
   refuses : {k : ℕ} → verdict (append_checks o (length out)) ≡ refuse k → Appends o out (Written.Refused k) out
   refuses e = record { answer = rw e; buffer = rw e }
 
   pub append_short : length o < 14 → Appends o out (Written.Refused 1) out
-  unfolding append_checks verdict
-  append_short h = refuses (simp (lt-ltb _ _ h))
+  append_short h = refuses (judged_short o (length out) h)
 
   module _ (least : 14 ≤ length o) where
     pub append_long : 1522 < length o → Appends o out (Written.Refused 2) out
-    unfolding append_checks verdict
-    append_long h = refuses (simp (le-ltb _ _ least, lt-ltb _ _ h))
+    append_long h = refuses (judged_long o (length out) least h)
 
     module _ (most : length o ≤ 1522) where
       pub append_no_room : length out < length o + 4 → Appends o out (Written.Refused 8) out
-      unfolding append_checks verdict
-      append_no_room h = refuses (simp (le-ltb _ _ least, le-ltb _ _ most, lt-ltb _ _ h))
+      append_no_room h = refuses (judged_no_room o (length out) least most h)
 
       pub append_done : length o + 4 ≤ length out → {later : List ℕ} → later ≡ put_in (appended o) out
           → Appends o out (Written.Length (length o + 4)) later

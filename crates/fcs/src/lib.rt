@@ -2,6 +2,8 @@
 //
 // Whatever octets come in, each call answers or refuses by the papers' number, and a refusal leaves the lent output as it was. Tags are
 // not read.
+#![tactic(auto)]
+
 mod low;
 mod part;
 mod sequence;

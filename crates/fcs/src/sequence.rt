@@ -4,6 +4,7 @@ ghost use Rattle.fcs.specs.Sequence.{Checks};
 use crate::low::low_first;
 
 // 0 where the last four octets are the check of those before them, or the refusal.
+#[tactic(auto, using(crate::proofs::Decided::check_short, crate::proofs::Decided::check_long))]
 pub fn check(frame: &[u8]) -> u8
     ensures { Checks frame.now result }
 {
@@ -16,7 +17,7 @@ pub fn check(frame: &[u8]) -> u8
     }
     let end = all - 4;
     let sequence = low_first(crc::of(&frame[..end]));
-    if check::same(&frame[end..], &sequence) {
+    if &frame[end..] == &sequence[..] {
         0
     } else {
         28

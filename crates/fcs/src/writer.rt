@@ -5,6 +5,7 @@ use crate::Written;
 use crate::low::low_first;
 
 // Writes the frame and its check to `out`.
+#[tactic(auto, using(crate::proofs::Decided::judged_short, crate::proofs::Decided::judged_long, crate::proofs::Decided::judged_no_room))]
 pub fn append(frame: &[u8], out: &mut [u8]) -> Written
     ensures { Appends frame.now out.old result out.new }
 {

@@ -70,7 +70,7 @@ module _ (o : List ℕ) (ok : verdict (checks o) ≡ good) where
   unfolding length_checks
   most = ltb-false _ _ (clear _ _ _ (clear _ _ _ parts_good.0).1).0
 
-  -- at a C_TAG: the octets reach past the type behind it, the VLAN id is not 4,095, and no second C_TAG follows
+  -- at a C-TAG: the octets reach past the type behind it, the VLAN id is not 4,095, and no second C-TAG follows
   pub behind_ctag : tagged o ≡ true → (18 ≤ length o) × (vlan o ≡ 4095 → ⊥) × (be16 o 16 ≡ C_TAG → ⊥)
   unfolding ctag_checks
   behind_ctag t =
@@ -91,7 +91,7 @@ module _ (o : List ℕ) (ok : verdict (checks o) ≡ good) where
   pub good_before : Before o (tag_place o) (tagged o) (vlan o)
   good_before = record { place = refl; is_tagged = refl; is_vlan = refl; left = ok ∙ sym tags_good.1 }
 
-  -- what stands at the sequence tag's place is no C_TAG
+  -- what stands at the sequence tag's place is no C-TAG
   pub no_ctag : be16 o (tag_place o) ≡ C_TAG → ⊥
   unfolding tag_place tagged
   no_ctag = by_cases (tagged o) (λ e. rw e (behind_ctag e).2) (λ e. rw e (eqb-false _ _ e))

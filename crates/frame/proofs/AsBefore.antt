@@ -9,22 +9,22 @@ use Rattle.octets.specs.Number.{be16}
 use Rattle.octets.proofs.Bools.{by_cases, neither}
 use Rattle.frame.specs.Layout.{R_TAG, HSR_TAG, tag_place, announces, sequenced, announced, number, kind, kind_place, payload_place}
 use Rattle.frame.specs.Reader.{sequence_checks, checks, header, reading}
-use Rattle.frame.specs.AsBefore.{has_rTag, has_hsr_tag, rtag_checks, checks_before, number_before, last_type, reading_before, ReadingAsBefore}
+use Rattle.frame.specs.AsBefore.{has_rtag, has_hsr_tag, rtag_checks, checks_before, number_before, last_type, reading_before, ReadingAsBefore}
 
--- what stands at the place of an R_TAG
-is_rtag : (o : List ℕ) → has_rTag o ≡ true → be16 o (tag_place o) ≡ R_TAG
-unfolding has_rTag
+-- what stands at the place of an R-TAG
+is_rtag : (o : List ℕ) → has_rtag o ≡ true → be16 o (tag_place o) ≡ R_TAG
+unfolding has_rtag
 is_rtag o = eqb-true _ R_TAG
 
 module _ (o : List ℕ) (n : has_hsr_tag o ≡ false) where
-  -- no HSR tag at the place, and none behind an R_TAG
-  none : (eqb (be16 o (tag_place o)) HSR_TAG ≡ false) × ((has_rTag o && eqb (be16 o (tag_place o + 6)) HSR_TAG) ≡ false)
+  -- no HSR tag at the place, and none behind an R-TAG
+  none : (eqb (be16 o (tag_place o)) HSR_TAG ≡ false) × ((has_rtag o && eqb (be16 o (tag_place o + 6)) HSR_TAG) ≡ false)
   unfolding has_hsr_tag
-  none = neither (eqb (be16 o (tag_place o)) HSR_TAG) (has_rTag o && eqb (be16 o (tag_place o + 6)) HSR_TAG) n
+  none = neither (eqb (be16 o (tag_place o)) HSR_TAG) (has_rtag o && eqb (be16 o (tag_place o + 6)) HSR_TAG) n
 
-  -- so the only tag is the R_TAG
-  pub only_rtag : sequenced o ≡ has_rTag o
-  unfolding sequenced announces has_rTag
+  -- so the only tag is the R-TAG
+  pub only_rtag : sequenced o ≡ has_rtag o
+  unfolding sequenced announces has_rtag
   only_rtag = rw none.0 (or-false (eqb (be16 o (tag_place o)) R_TAG))
 
   -- and the checks are those that there were
@@ -32,13 +32,13 @@ module _ (o : List ℕ) (n : has_hsr_tag o ≡ false) where
   unfolding checks checks_before sequence_checks rtag_checks announces
   same_checks =
       rw only_rtag
-      (by_cases (has_rTag o)
+      (by_cases (has_rtag o)
       (λ r. rw (r, rw r at none.1) (rw (or-false (eqb (be16 o (tag_place o + 6)) R_TAG)) refl))
       (λ r. rw r refl))
 
-  same_announced : announced o ≡ cond (has_rTag o) R_TAG 0
+  same_announced : announced o ≡ cond (has_rtag o) R_TAG 0
   unfolding announced
-  same_announced = rw only_rtag (by_cases (has_rTag o) (λ r. rw r (is_rtag o r)) (λ r. rw r refl))
+  same_announced = rw only_rtag (by_cases (has_rtag o) (λ r. rw r (is_rtag o r)) (λ r. rw r refl))
 
   same_number : number o ≡ number_before o
   unfolding number number_before

@@ -3,11 +3,11 @@
 use Rattle.std.specs.Prelude.{ℕ, ◌+◌, ◌-◌, ◌%◌, Bool, cond, ◌||◌, List, length, eqb}
 use Rattle.octets.specs.Number.{be16, be48}
 
--- the type that announces a C_TAG: "81 00"
+-- the type that announces a C-TAG: "81 00"
 abbrev pub C_TAG : ℕ
 C_TAG = 0x8100
 
--- an R_TAG: "F1 C1"
+-- an R-TAG: "F1 C1"
 abbrev pub R_TAG : ℕ
 R_TAG = 0xF1C1
 
@@ -23,23 +23,23 @@ destination o = be48 o 0
 unfoldable pub source : List ℕ → ℕ
 source o = be48 o 6
 
--- "an optional C_TAG"
+-- "an optional C-TAG"
 unfoldable pub tagged : List ℕ → Bool
 tagged o = eqb (be16 o 12) C_TAG
 
--- "16 bits whose low 12 are the VLAN id"; "a frame without C_TAG has VLAN id 0"
+-- "16 bits whose low 12 are the VLAN id"; "a frame without C-TAG has VLAN id 0"
 unfoldable pub vlan : List ℕ → ℕ
 vlan o = cond (tagged o) (be16 o 14 % 4096) 0
 
--- the R-TAG's place, and the HSR tag's: "after the C_TAG if there is one, else after the source address"
+-- the R-TAG's place, and the HSR tag's: "after the C-TAG if there is one, else after the source address"
 unfoldable pub tag_place : List ℕ → ℕ
 tag_place o = cond (tagged o) 16 12
 
--- a type that announces a sequence tag, the R_TAG or the HSR tag: "For every stream 892F is now a tag" (CR 5)
+-- a type that announces a sequence tag, the R-TAG or the HSR tag: "For every stream 892F is now a tag" (CR 5)
 unfoldable pub announces : ℕ → Bool
 announces type = eqb type R_TAG || eqb type HSR_TAG
 
--- "an optional R_TAG", or an HSR tag at its place
+-- "an optional R-TAG", or an HSR tag at its place
 unfoldable pub sequenced : List ℕ → Bool
 sequenced o = announces (be16 o (tag_place o))
 

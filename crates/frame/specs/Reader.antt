@@ -13,11 +13,11 @@ use Rattle.frame.specs.Layout.{announces, sequenced, announced, number, kind, pa
 unfoldable pub length_checks : List ℕ → List Check
 length_checks o = ltb (length o) 14 ⇒ 1 ∷ ltb 1522 (length o) ⇒ 2 ∷ []
 
--- "At a C_TAG: 3, 5, 4": "octets end before the type after a tag"; "VLAN id 4,095"; "8100 after a C_TAG"
+-- "At a C-TAG: 3, 5, 4": "octets end before the type after a tag"; "VLAN id 4,095"; "8100 after a C-TAG"
 unfoldable pub ctag_checks : List ℕ → List Check
 ctag_checks o = ltb (length o) 18 ⇒ 3 ∷ eqb (vlan o) 4095 ⇒ 5 ∷ eqb (be16 o 16) C_TAG ⇒ 4 ∷ []
 
--- "At an R_TAG: 3, 4", and at an HSR tag: "octets end before the type after a tag"; "8100 or F1C1 after an R_TAG", and "3, 4 and 6 cover
+-- "At an R-TAG: 3, 4", and at an HSR tag: "octets end before the type after a tag"; "8100 or F1C1 after an R-TAG", and "3, 4 and 6 cover
 -- both, mixed too" (CR 5)
 unfoldable pub sequence_checks : List ℕ → List Check
 sequence_checks o =

@@ -1,6 +1,8 @@
 // A lent frame: read in one pass, and its payload handed back as a part of it.
 //
 // Whatever octets come in, each call answers or refuses by document 01's number.
+#![tactic(auto)]
+
 mod part;
 mod reader;
 
@@ -8,7 +10,7 @@ pub use part::payload;
 pub use reader::read;
 
 // What a frame says before its payload, whatever the encoding of its stream. An address is its six octets as one big-endian number.
-#[derive(Drop)]
+#[derive(Clone, Copy)]
 pub struct Header {
     pub destination: u64,
     pub source: u64,

@@ -13,6 +13,7 @@ const R_TAG: u16 = 0xF1C1;
 const HSR_TAG: u16 = 0x892F;
 
 // Everything about a frame, or the first refusal: 1, 2, then from left to right.
+#[tactic(auto, using(crate::proofs::Verdicts::of_read))]
 pub fn read(frame: &[u8]) -> Reading
     ensures { Reads frame.now result }
 {
@@ -41,6 +42,7 @@ pub fn read(frame: &[u8]) -> Reading
 
 // The frame from the sequence tag's place on, where all before it is read and good. Each type goes its own way, so that a caller who asks
 // for one finds no test of the other on it.
+#[tactic(auto, using(crate::proofs::Verdicts::of_from_tag_place))]
 fn from_tag_place(frame: &[u8], at: usize, tagged: bool, vlan: u16) -> Reading
     requires { Before frame.now at tagged vlan }
     ensures { Reads frame.now result }
@@ -56,6 +58,7 @@ fn from_tag_place(frame: &[u8], at: usize, tagged: bool, vlan: u16) -> Reading
 }
 
 // The frame from a sequence tag on that this type announces.
+#[tactic(auto, using(crate::proofs::Verdicts::of_from_tag))]
 fn from_tag(frame: &[u8], at: usize, tagged: bool, vlan: u16, announced: u16) -> Reading
     requires { Before frame.now at tagged vlan × (be16 frame.now at ≡ announced) × (announces announced ≡ true) }
     ensures { Reads frame.now result }
@@ -78,6 +81,7 @@ fn from_tag(frame: &[u8], at: usize, tagged: bool, vlan: u16, announced: u16) ->
 }
 
 // The header of a frame whose tags are read.
+#[tactic(auto, unfolding(crate::specs::Layout::destination, crate::specs::Layout::source))]
 fn header(
     frame: &[u8],
     tagged: bool,

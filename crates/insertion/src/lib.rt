@@ -1,4 +1,6 @@
 // A tag or a trailer put in (document 01, "Reading a frame"; document 02, CR 5): the result goes to a second buffer.
+#![tactic(auto)]
+
 ghost use Rattle.std.specs.Prelude.{◌≡◌, ◌+◌, ◌≤◌, true, cond, ◌++◌, length};
 ghost use Rattle.octets.specs.Copy.{put_in, Puts};
 ghost use Rattle.encoding.specs.Encodings.{in_front};
@@ -9,6 +11,7 @@ use frame::Reading;
 use tag::Written;
 
 // Writes the frame with that number and path or LAN id to `out`, in the encoding of its stream.
+#[tactic(auto, using(crate::proofs::Decided::of_insert))]
 pub fn insert(frame: &[u8], encoding: Encoding, number: u16, path: u8, out: &mut [u8]) -> Written
     ensures { Inserts encoding frame.now number path out.old result out.new }
 {
@@ -62,6 +65,6 @@ fn write_tagged(rest: &[u8], six: [u8; 6], out: &mut [u8])
     requires { length rest.now + 6 ≤ length out.old }
     ensures { Puts (six ++ rest.now) out.old true out.new }
 {
-    bytes::copy(&six, out);
-    bytes::copy(rest, &mut out[6..]);
+    octets::put(&six, out);
+    octets::put(rest, &mut out[6..]);
 }

@@ -1,4 +1,6 @@
 // A tag or a trailer taken off (document 01, "Reading a frame"; document 02, CR 5): the result goes to a second buffer.
+#![tactic(auto)]
+
 ghost use Rattle.std.specs.Prelude.{◌≡◌, ◌+◌, ◌≤◌, length};
 ghost use Rattle.octets.specs.Copy.{put_in};
 ghost use Rattle.tag.specs.Removal.{Removes, removed_at};
@@ -7,6 +9,7 @@ use encoding::{Encoding, Packet};
 use tag::Written;
 
 // Writes the frame without the six octets of its number to `out`, in the encoding of its stream.
+#[tactic(auto, using(crate::proofs::Decided::of_remove))]
 pub fn remove(frame: &[u8], encoding: Encoding, out: &mut [u8]) -> Written
     ensures { Removes encoding frame.now out.old result out.new }
 {
@@ -32,6 +35,6 @@ fn write_without(frame: &[u8], at: usize, out: &mut [u8])
     ensures { out.new ≡ put_in (removed_at frame.now at) out.old }
 {
     let behind = at + 6;
-    bytes::copy(&frame[..at], out);
-    bytes::copy(&frame[behind..], &mut out[at..]);
+    octets::put(&frame[..at], out);
+    octets::put(&frame[behind..], &mut out[at..]);
 }

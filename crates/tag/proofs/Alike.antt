@@ -39,12 +39,12 @@ module _ {x y : List ℕ} {at : ℕ} (same : Same x y at) where
   unfolding header_at retagged destination source
   same_header far t v l m p q a b e = simp (same_address 0 (omega arith), same_address 6 (omega arith), e)
 
--- a type that announces a sequence tag announces no C_TAG
+-- a type that announces a sequence tag announces no C-TAG
 pub no_type_of_both : {m : ℕ} → announces m ≡ true → m ≡ C_TAG → ⊥
 unfolding announces
 no_type_of_both k x = false≢true (rw x at k)
 
--- all before the sequence tag's place of a good frame `x`, in a frame `y` that has the same octets there: the C_TAG of one is the other's
+-- all before the sequence tag's place of a good frame `x`, in a frame `y` that has the same octets there: the C-TAG of one is the other's
 module _ (x y : List ℕ) (ok : verdict (checks x) ≡ good) (same : Same x y (tag_place x)) where
   pub before_alike : tag_place x + 2 ≤ length y → length y ≤ 1522 → (be16 y (tag_place x) ≡ C_TAG → ⊥)
       → Before y (tag_place x) (tagged x) (vlan x)

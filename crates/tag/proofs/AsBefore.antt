@@ -1,4 +1,4 @@
--- The old promises of the R_TAG put in and taken off, from the new ones (`specs/AsBefore`). Assumes nothing.
+-- The old promises of the R-TAG put in and taken off, from the new ones (`specs/AsBefore`). Assumes nothing.
 use Prim.Native.Nat.{ℕ}
 use mathlib.Core.Path.{◌≡◌, refl}
 use mathlib.Core.Bool.{false}
@@ -8,7 +8,7 @@ use Rattle.octets.specs.Checks.{verdict}
 use Rattle.octets.proofs.Order.{verdict_append}
 use Rattle.encoding.specs.declared.Encoding.TheVariants.{RTag}
 use Rattle.encoding.specs.Encodings.{in_front, place, mark, id_word, words, as_octets, six, carries, standing}
-use Rattle.frame.specs.AsBefore.{has_rTag, has_hsr_tag}
+use Rattle.frame.specs.AsBefore.{has_rtag, has_hsr_tag}
 use Rattle.frame.proofs.AsBefore.{only_rtag, same_checks}
 use Rattle.tag.specs.Insertion.{inserted_at, inserted, insert_checks}
 use Rattle.tag.specs.Removal.{removed_at, removed, remove_checks}
@@ -29,7 +29,7 @@ module _ (o : List ℕ) (room : ℕ) (n : has_hsr_tag o ≡ false) where
   same_insertion = simp (verdict_append, same_checks o n, only_rtag o n)
 
   same_removal : remove_checks RTag o room ≡ remove_checks_before o room
-  unfolding remove_checks remove_checks_before carries in_front mark has_rTag
+  unfolding remove_checks remove_checks_before carries in_front mark has_rtag
   same_removal = rw (same_checks o n)
 
 pub inserts_as_before : InsertsAsBefore

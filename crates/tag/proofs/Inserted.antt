@@ -54,11 +54,11 @@ insertable e o id room a =
     }
 
 -- the id that is read of the word that was written
-id_read : (e : Encoding) (id size : ℕ) → id ≤ 15 → id_in e (id_word e id size) ≡ id_read e id
+id_is_read : (e : Encoding) (id size : ℕ) → id ≤ 15 → id_in e (id_word e id size) ≡ id_read e id
 unfolding id_in id_word id_and_size id_read
-id_read RTag id size s = refl
-id_read Hsr id size s = omega arith
-id_read Prp id size s = omega arith
+id_is_read RTag id size s = refl
+id_is_read Hsr id size s = omega arith
+id_is_read Prp id size s = omega arith
 
 -- put in
 module _ (e : Encoding) (o : List ℕ) (n id room : ℕ) (accepted : verdict (insert_checks e o id room) ≡ good) where
@@ -195,7 +195,7 @@ module _ (e : Encoding) (o : List ℕ) (n id room : ℕ) (accepted : verdict (in
   inserted_sequence =
       let number = word_put (number_at e) (omega (arith, number_within e)) ∙ number_there e n id size in
       let between = word_put 2 (omega arith) ∙ id_between e n id size in
-      simp (inserted_carries, inserted_standing, number, between, id_read e id size ins.small)
+      simp (inserted_carries, inserted_standing, number, between, id_is_read e id size ins.small)
 
   -- put in, then taken off, gives the first frame
   pub inserted_removed : removed e (inserted e o n id) ≡ o

@@ -16,12 +16,12 @@ inserted_at o at six = take at o ++ (six ++ drop at o)
 abbrev pub size_of : List ℕ → ℕ
 size_of o = payload_length o + tag_length
 
--- "Insertion puts the R_TAG after the C_TAG if there is one, else after the source address"; the HSR tag "at the R-TAG's place"; the PRP
+-- "Insertion puts the R-TAG after the C-TAG if there is one, else after the source address"; the HSR tag "at the R-TAG's place"; the PRP
 -- trailer "at the end"
 unfoldable pub inserted : Encoding → List ℕ → (number id : ℕ) → List ℕ
 inserted e o number id = inserted_at o (place e (tag_place o) (length o)) (six e number id (size_of o))
 
--- "1 to 5 as in reading, then 6 or 9, then 7, then 8": "insertion: R_TAG there"; "result over 1,522"; "output shorter than result". "A path
+-- "1 to 5 as in reading, then 6 or 9, then 7, then 8": "insertion: R-TAG there"; "result over 1,522"; "output shorter than result". "A path
 -- or LAN id over 15 is refusal 37, after 5 and before 6. PRP insertion never gives 6"; of tags "3, 4 and 6 cover both"
 unfoldable pub insert_checks : Encoding → List ℕ → (id room : ℕ) → List Check
 insert_checks e o id room =

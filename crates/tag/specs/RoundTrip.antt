@@ -24,7 +24,7 @@ InsertThenRemove =
     → Inserts e o n id out (Length k) later → length o ≤ length out' → Removes e (take k later) out' r later'
     → (r ≡ Length (length o)) × (take (length o) later' ≡ o)
 
--- the word between number and mark is what insertion writes: the reserved octets of an R_TAG are zero, and the size of an HSR tag is right
+-- the word between number and mark is what insertion writes: the reserved octets of an R-TAG are zero, and the size of an HSR tag is right
 unfoldable pub AsWritten : Encoding → List ℕ → Type 0
 AsWritten e o =
     be16 o (standing e o + 2) ≡ id_word e (sequence e o).path (size_of (removed e o))
@@ -63,7 +63,7 @@ with_tag e n h = cond (in_front e) (retagged h (mark e) n (h.payload + tag_lengt
 unfoldable pub without_tag : Encoding → Header → Header
 without_tag e h = cond (in_front e) (retagged h 0 0 (h.payload - tag_length)) h
 
--- the path or LAN id that is read: an R_TAG has none
+-- the path or LAN id that is read: an R-TAG has none
 unfoldable pub id_read : Encoding → ℕ → ℕ
 id_read RTag id = 0
 id_read Hsr id = id

@@ -2,6 +2,7 @@
 // definitions, and the round trips as laws.
 //
 // Whatever octets come in, each of the two answers or refuses by the papers' number, and a refusal leaves the lent output as it was.
+#![tactic(auto)]
 
 // What insertion and removal answer: the result's length, or the refusal.
 #[derive(Drop)]
