@@ -74,7 +74,7 @@ module _ {c v o b : ℕ} where
       let second : Takes o b v = record { priority = λ p. (none.1 p).0; asked = λ n. sym (equal n) } in
       inr (record { priority = λ p. (none.0 p).0; asked = λ n. refl }, second))
 
--- an entry takes the id of a frame that it allows, if that has VLAN id 0 where it has no C_TAG
+-- an entry takes the id of a frame that it allows, if that has VLAN id 0 where it has no C-TAG
 allowed : (e : List ℕ) (asked : ℕ) (h : Header) → NoTagNoVlan h → allows e asked h ≡ true → Takes (choice e) (vlan e) h.vlan
 unfolding allows choice_fits
 allowed e asked h none a =
@@ -108,7 +108,7 @@ module _ (e : List ℕ) (fit : unfit e ≡ false) where
     by_vlan : (eqb (vlan e) 0 || eqb (vlan e) h.vlan) ≡ true
     by_vlan = by_cases (eqb (vlan e) 0) (λ z. simp z) (λ n. simp (eq-eqb _ _ (p.asked (eqb-false _ _ n)), or-true))
 
-    -- an entry in range allows a frame whose C_TAG has an id that it takes
+    -- an entry in range allows a frame whose C-TAG has an id that it takes
     taken : allows e (address e) h ≡ true
     unfolding allows
     taken = and_true (and_true (eq-eqb (address e) (address e) refl) by_choice) by_vlan
@@ -117,7 +117,7 @@ module _ (e : List ℕ) (fit : unfit e ≡ false) where
 abbrev address_then : List ℕ → List ℕ → List ℕ
 address_then e o = get_or e 1 0 ∷ get_or e 2 0 ∷ get_or e 3 0 ∷ get_or e 4 0 ∷ get_or e 5 0 ∷ get_or e 6 0 ∷ o
 
--- the frame that is built: to and from the address of an entry, with a C_TAG of the VLAN of `x`; its type, 88B5, announces no tag
+-- the frame that is built: to and from the address of an entry, with a C-TAG of the VLAN of `x`; its type, 88B5, announces no tag
 unfoldable witness : List ℕ → List ℕ → List ℕ
 witness e x = address_then e (address_then e (0x81 ∷ 0 ∷ get_or x 8 0 ∷ get_or x 9 0 ∷ 0x88 ∷ 0xB5 ∷ []))
 

@@ -8,7 +8,7 @@ use Rattle.entry.specs.Contents.{address, choice, vlan}
 use Rattle.entry.specs.Matching.{choice_allows, allows}
 use Rattle.entry.specs.Front.{NoTagNoVlan, choice_fits, allows_by}
 
--- where a frame without C_TAG has VLAN id 0, the id decides for priority
+-- where a frame without C-TAG has VLAN id 0, the id decides for priority
 pub choice-fits : (choice vlan : ℕ) (tagged : Bool) → (tagged ≡ false → vlan ≡ 0)
     → choice_fits choice tagged vlan ≡ choice_allows choice tagged vlan
 unfolding choice_fits choice_allows

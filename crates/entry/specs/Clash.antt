@@ -4,7 +4,7 @@ use Rattle.std.specs.Prelude.{ℕ, ◌/◌, ◌%◌, ◌≡◌, Bool, not, ◌&&
 use Rattle.entry.specs.Contents.{kind, address, choice, vlan}
 use Rattle.entry.specs.Ambiguous.{by_address}
 
--- `meet`: two choices and VLANs leave a frame for both. Where both VLANs are 0 it is one with a C_TAG of VLAN id 0, which is tagged and
+-- `meet`: two choices and VLANs leave a frame for both. Where both VLANs are 0 it is one with a C-TAG of VLAN id 0, which is tagged and
 -- priority too. Else it has the VLAN that one asks for and the other allows, and priority allows none but 0.
 unfoldable pub meet : (choice vlan other beside : ℕ) → Bool
 meet choice vlan other beside =

@@ -1,9 +1,9 @@
 -- The test of `Matching` as a walk makes it: by the number of an entry's first eight octets, kind, address and choice, and of a frame that
--- has VLAN id 0 where it has no C_TAG. That it is the same test there is a law (`proofs/Front`). Assumes nothing.
+-- has VLAN id 0 where it has no C-TAG. That it is the same test there is a law (`proofs/Front`). Assumes nothing.
 use Rattle.std.specs.Prelude.{ℕ, ◌/◌, ◌%◌, ◌≡◌, Bool, false, ◌&&◌, ◌||◌, eqb}
 use Rattle.frame.specs.declared.Header.{Header}
 
--- *House*: "a frame without C_TAG has VLAN id 0"
+-- *House*: "a frame without C-TAG has VLAN id 0"
 abbrev pub NoTagNoVlan : Header → Type 0
 NoTagNoVlan h = h.tagged ≡ false → h.vlan ≡ 0
 

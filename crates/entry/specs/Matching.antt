@@ -5,7 +5,7 @@ use Rattle.frame.specs.declared.Header.{Header}
 use Rattle.entry.specs.Contents.{kind, IP, address, choice, vlan}
 use Rattle.entry.specs.Ip.{ip_allows}
 
--- "tagged: has a C_TAG; priority: none, or VLAN id 0; all: any"
+-- "tagged: has a C-TAG; priority: none, or VLAN id 0; all: any"
 unfoldable pub choice_allows : ℕ → (tagged : Bool) → (vlan : ℕ) → Bool
 choice_allows choice tagged vlan = (eqb choice 1 && tagged) || (eqb choice 2 && (not tagged || eqb vlan 0)) || eqb choice 3
 

@@ -3,6 +3,7 @@ ghost use Rattle.std.specs.Prelude.{◌≡◌};
 ghost use Rattle.entry.specs.Clash.{meet as meet_by, Clashes};
 
 // Of two entries of kind 1, or of kind 2, each by its front and its VLAN. Kind and address come first: they tell most entries apart.
+#[tactic(auto, unfolding(crate::specs::Clash::clash_by))]
 pub fn clash(front: u64, vlan: u16, other: u64, beside: u16) -> bool
     ensures { Clashes front vlan other beside result }
 {
@@ -13,6 +14,7 @@ pub fn clash(front: u64, vlan: u16, other: u64, beside: u16) -> bool
 }
 
 // Whether two choices and VLANs leave a frame for both.
+#[tactic(auto, unfolding(crate::specs::Clash::meet))]
 fn meet(choice: u8, vlan: u16, other: u8, beside: u16) -> bool
     ensures { result ≡ meet_by choice vlan other beside }
 {

@@ -2,6 +2,7 @@
 ghost use Rattle.entry.specs.Contents.{HasBody, Ranges, IpRanges, Unfit};
 
 // How many octets follow the kind; 0 for an octet that is no kind.
+#[tactic(auto, unfolding(crate::specs::Contents::body_length))]
 pub fn body_length(kind: u8) -> usize
     ensures { HasBody kind result }
 {
@@ -14,6 +15,7 @@ pub fn body_length(kind: u8) -> usize
 }
 
 // Whether a field of an entry is out of its range.
+#[tactic(auto, unfolding(crate::specs::Contents::unfit, crate::specs::Contents::kind, crate::specs::Contents::choice, crate::specs::Contents::vlan, crate::specs::Contents::dscp, crate::specs::Contents::protocol))]
 pub fn unfit(entry: &[u8]) -> bool
     ensures { Unfit entry.now result }
 {
@@ -26,6 +28,7 @@ pub fn unfit(entry: &[u8]) -> bool
     false
 }
 
+#[tactic(auto, unfolding(crate::specs::Contents::out_of_range))]
 pub fn out_of_range(choice: u8, vlan: u16) -> bool
     ensures { Ranges choice vlan result }
 {
@@ -35,6 +38,7 @@ pub fn out_of_range(choice: u8, vlan: u16) -> bool
     }
 }
 
+#[tactic(auto, unfolding(crate::specs::Contents::ip_out_of_range))]
 pub fn ip_out_of_range(dscp: u8, protocol: u8) -> bool
     ensures { IpRanges dscp protocol result }
 {

@@ -9,6 +9,7 @@ const IPV4: u16 = 0x0800;
 const NONE: u8 = 1;
 
 // The packet that a payload behind this type begins with. Behind another type it is as a bad one.
+#[tactic(auto, unfolding(crate::specs::Ip::packet_of))]
 pub fn packet_of(kind: u16, payload: &[u8]) -> Reading
     ensures { ReadsPacket kind payload.now result }
 {
@@ -29,6 +30,7 @@ pub fn ip_allows(entry: &[u8], packet: Reading, payload: &[u8]) -> bool
     }
 }
 
+#[tactic(auto, unfolding(crate::specs::Ip::ip_fits, crate::specs::Contents::source_ip, crate::specs::Contents::destination_ip, crate::specs::Contents::dscp))]
 fn ip_fits(entry: &[u8], ip: Header, payload: &[u8]) -> bool
     ensures { result ≡ ip_fits entry.now ip payload.now }
 {
@@ -44,6 +46,7 @@ fn ip_fits(entry: &[u8], ip: Header, payload: &[u8]) -> bool
     protocol_fits(entry, ip, payload)
 }
 
+#[tactic(auto, unfolding(crate::specs::Ip::protocol_fits, crate::specs::Contents::protocol, crate::specs::Contents::source_port, crate::specs::Contents::destination_port))]
 fn protocol_fits(entry: &[u8], ip: Header, payload: &[u8]) -> bool
     ensures { result ≡ protocol_fits entry.now ip payload.now }
 {
@@ -62,12 +65,14 @@ fn protocol_fits(entry: &[u8], ip: Header, payload: &[u8]) -> bool
     ports_fit(source, destination, ip, payload)
 }
 
+#[tactic(auto, unfolding(crate::specs::Ip::no_port))]
 fn none_asked(source: u16, destination: u16) -> bool
     ensures { result ≡ no_port source destination }
 {
     source == 0 && destination == 0
 }
 
+#[tactic(auto, unfolding(crate::specs::Ip::protocol_number))]
 fn protocol_number(next: u8) -> u8
     ensures { result ≡ protocol_number next }
 {
@@ -78,6 +83,7 @@ fn protocol_number(next: u8) -> u8
     }
 }
 
+#[tactic(auto, unfolding(crate::specs::Ip::ports_fit))]
 fn ports_fit(source: u16, destination: u16, ip: Header, payload: &[u8]) -> bool
     ensures { result ≡ ports_fit source destination ip payload.now }
 {
@@ -100,6 +106,7 @@ fn ports_fit(source: u16, destination: u16, ip: Header, payload: &[u8]) -> bool
 }
 
 // 255 asks for nothing.
+#[tactic(auto, unfolding(crate::specs::Ip::dscp_fits))]
 fn dscp_fits(asked: u8, is: u8) -> bool
     ensures { result ≡ dscp_fits asked is }
 {
@@ -107,6 +114,7 @@ fn dscp_fits(asked: u8, is: u8) -> bool
 }
 
 // Zero asks for nothing.
+#[tactic(auto, unfolding(crate::specs::Ip::zero_or))]
 fn zero_or(asked: u32, is: u32) -> bool
     ensures { result ≡ zero_or asked is }
 {

@@ -1,6 +1,8 @@
 // One entry of a stream table: what its octets say, whether it matches a frame, and whether it clashes with another.
 //
 // Any octets, numbers and headers may be handed in, and each call has an answer; the walk over a table stands in the room above.
+#![tactic(auto)]
+
 mod clashing;
 mod contents;
 mod ip;

@@ -11,6 +11,7 @@ use frame::Header;
 const ADDRESSES: u64 = 281474976710656;
 
 // The frame's address that a kind asks for.
+#[tactic(auto, unfolding(crate::specs::Matching::address_of))]
 pub fn address_of(kind: u8, h: Header) -> u64
     ensures { Asks kind h result }
 {
@@ -19,6 +20,7 @@ pub fn address_of(kind: u8, h: Header) -> u64
 
 // Whether an entry that asks for this address allows the frame. Of a header that has VLAN id 0 where it has no C-TAG, as every frame that is
 // read has, this is document 01's test. The address comes first: it tells most entries apart.
+#[tactic(auto, unfolding(crate::specs::Front::allows_by))]
 pub fn allows(front: u64, address: u64, vlan: u16, h: Header) -> bool
     ensures { Allows front address vlan h result }
 {
@@ -32,6 +34,7 @@ pub fn allows(front: u64, address: u64, vlan: u16, h: Header) -> bool
 }
 
 // A frame without C-TAG has VLAN id 0: so priority asks for the id alone, and the compiler keeps no flag for it through a walk.
+#[tactic(auto, unfolding(crate::specs::Front::choice_fits))]
 fn choice_fits(choice: u8, tagged: bool, vlan: u16) -> bool
     ensures { result ≡ choice_fits choice tagged vlan }
 {

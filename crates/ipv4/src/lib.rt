@@ -1,12 +1,14 @@
 // An IPv4 header at the start of lent octets (RFC 791; the DSCP's bits by RFC 2474): what a stream lookup asks of it.
 //
 // Whatever octets come in, the call answers. It knows nothing of frames and tables. The checksum and the total length are not read.
+#![tactic(auto)]
+
 mod reader;
 
 pub use reader::read;
 
 // An address is its four octets as one big-endian number.
-#[derive(Drop)]
+#[derive(Clone, Copy)]
 pub struct Header {
     pub source: u32,
     pub destination: u32,
@@ -18,7 +20,7 @@ pub struct Header {
     pub ports: usize,
 }
 
-#[derive(Drop)]
+#[derive(Clone, Copy)]
 pub enum Reading {
     Whole(Header),
     Bad,

@@ -8,6 +8,7 @@ use crate::{Header, Reading};
 const SHORTEST: usize = 20;
 
 // The header that octets begin with. A bad one is bad before it is cut.
+#[tactic(auto, using(crate::proofs::Verdicts::other_version, crate::proofs::Verdicts::under_five_words, crate::proofs::Verdicts::shorter, crate::proofs::Verdicts::whole), unfolding(crate::specs::Reader::header, crate::specs::Reader::header_length, crate::specs::Reader::words))]
 pub fn read(packet: &[u8]) -> Reading
     ensures { Reads packet.now result }
 {
@@ -36,6 +37,7 @@ pub fn read(packet: &[u8]) -> Reading
 }
 
 // The high six bits of the second octet.
+#[tactic(auto, unfolding(crate::specs::Reader::dscp))]
 fn dscp_of(packet: &[u8]) -> u8
     ensures { result ≡ dscp packet.now }
 {
@@ -43,6 +45,7 @@ fn dscp_of(packet: &[u8]) -> u8
 }
 
 // Whether the offset, the low 13 bits beside the flags, is not 0.
+#[tactic(auto, unfolding(crate::specs::Reader::later))]
 fn is_later(packet: &[u8]) -> bool
     ensures { result ≡ later packet.now }
 {

@@ -24,7 +24,7 @@ receiver = 2 ∷ 0 ∷ 0 ∷ 0 ∷ 0 ∷ 1 ∷ []
 sender : List ℕ
 sender = 2 ∷ 0 ∷ 0 ∷ 0 ∷ 0 ∷ 9 ∷ []
 
--- frames: with no C_TAG, with one of a VLAN id, cut
+-- frames: with no C-TAG, with one of a VLAN id, cut
 plain : List ℕ
 plain = receiver ++ (sender ++ (8 ∷ 0 ∷ []))
 

@@ -17,15 +17,15 @@ use Rattle.streams.specs.Table.{entries_after, entries, entry_checks, table_chec
 use Rattle.streams.specs.Walk.{verdict_from}
 
 -- octets that belong to the entry before are passed over
-entries_after : (left : ℕ) (t : List ℕ) → entries_after left t ≡ entries (drop left t)
+passed_over : (left : ℕ) (t : List ℕ) → entries_after left t ≡ entries (drop left t)
 unfolding entries_after entries
-entries_after zero t = refl
-entries_after (suc left) [] = refl
-entries_after (suc left) (x ∷ t) = entries_after left t
+passed_over zero t = refl
+passed_over (suc left) [] = refl
+passed_over (suc left) (x ∷ t) = passed_over left t
 
 entries_cons : (kind : ℕ) (t : List ℕ) → entries (kind ∷ t) ≡ (kind ∷ take (body_length kind) t) ∷ entries (drop (body_length kind) t)
 unfolding entries_after entries
-entries_cons kind t = ap (λ (es : List (List ℕ)). (kind ∷ take (body_length kind) t) ∷ es) (entries_after (body_length kind) t)
+entries_cons kind t = ap (λ (es : List (List ℕ)). (kind ∷ take (body_length kind) t) ∷ es) (passed_over (body_length kind) t)
 
 -- the octets of an entry that stands at a place, with a body of that length
 abbrev pub entry_at : List ℕ → ℕ → ℕ → List ℕ

@@ -5,7 +5,6 @@ use Rattle.octets.specs.Checks.{Check, ◌⇒◌, Verdict, good, refuse, verdict
 use Rattle.frame.specs.declared.Header.{Header}
 use Rattle.frame.specs.Reader.{checks, header}
 use Rattle.streams.specs.declared.Checked.{Checked}
-use Rattle.streams.specs.declared.Checked.TheVariants as Checked
 use Rattle.streams.specs.declared.Found.{Found}
 use Rattle.streams.specs.declared.Found.TheVariants.{Stream, NoStream, Refused}
 use Rattle.entry.specs.Contents.{kind, body_length, handle, unfit}

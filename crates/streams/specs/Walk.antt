@@ -52,7 +52,7 @@ pub record Seeks (t : List ℕ) (h : Header) (before at : ℕ) (r : Sought) : Ty
   pub comes : (p : List ℕ) → comes_to t h p r ≡ walked t h p before at
   pub stops : Stops t at r
 
--- what `walk` and `among_packets` ask of a header: that its payload starts within the frame, and of a frame without C_TAG the VLAN id 0
+-- what `walk` and `among_packets` ask of a header: that its payload starts within the frame, and of a frame without C-TAG the VLAN id 0
 pub record OfFrame (o : List ℕ) (h : Header) : Type 0 where
   pub within : h.payload ≤ length o
   pub untagged : NoTagNoVlan h

@@ -1,6 +1,8 @@
 // A lent stream table checked whole, and a frame looked up in it.
 //
 // Whatever octets come in, each call answers or refuses by document 01's number: the table's first fault before the frame's.
+#![tactic(auto)]
+
 mod table;
 
 pub use table::{check, lookup};

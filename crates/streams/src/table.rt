@@ -28,6 +28,7 @@ const MOST: usize = 256;
 const KIND: u64 = 72057594037927936;
 
 // The table's verdict alone.
+#[tactic(auto, using(crate::proofs::Answered::from_the_start))]
 pub fn check(table: &[u8]) -> Checked
     ensures { ChecksTable table.now result }
 {
@@ -82,6 +83,7 @@ fn among_packets(table: &[u8], frame: &[u8], h: Header, from: usize, count: usiz
 }
 
 // The answer at an entry that matches: the handle is the last of its body.
+#[tactic(auto, unfolding(crate::specs::Walk::matched_at))]
 fn matched(table: &[u8], at: usize, passed: usize, body: usize) -> Found
     requires { There table.now at passed body }
     ensures { result ≡ matched_at table.now passed at body }
@@ -148,6 +150,7 @@ fn seek(table: &[u8], h: Header, from: usize, count: usize) -> Sought
 }
 
 // The front of the entry at a place; 0 where there is room for none.
+#[tactic(auto, unfolding(crate::specs::Walk::front_at))]
 fn front_at(table: &[u8], at: usize) -> u64
     requires { at ≤ length table.now }
     ensures { result ≡ front_at table.now at }
@@ -160,6 +163,7 @@ fn front_at(table: &[u8], at: usize) -> u64
 }
 
 // What a lookup answers that has come to this, with the entries from a place on still to be checked.
+#[tactic(auto, using(crate::proofs::Answered::checked_good, crate::proofs::Answered::checked_refused))]
 fn settled(table: &[u8], from: usize, count: usize, found: Found) -> Found
     ensures { result ≡ found_by (verdict_from table.now count from) found }
 {
@@ -170,6 +174,7 @@ fn settled(table: &[u8], from: usize, count: usize, found: Found) -> Found
 }
 
 // The entries from a place on, with so many before it.
+#[tactic(auto, using(crate::proofs::Checking::cut_at))]
 fn checked(table: &[u8], from: usize, count: usize) -> Checked
     ensures { result ≡ checked_by (verdict_from table.now count from) }
 {
