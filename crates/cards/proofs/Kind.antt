@@ -1,7 +1,7 @@
 -- What stands next goes by the kind and its two checks. The laws say so of the whole payload, as the code reads it. Assumes nothing.
-use Prim.Native.Nat.{ℕ, suc, ◌≤◌, ◌<◌}
+use Prim.Native.Nat.{ℕ, suc, ◌≤◌, ◌<◌, zero-le}
 use native.Mathlib.Omega.{arith}
-use mathlib.Core.Path.{◌≡◌, refl}
+use mathlib.Core.Path.{◌≡◌, refl, sym, ap, ◌∙◌}
 use mathlib.Core.Bool.{true, not}
 use mathlib.Core.Logic.{◌≢◌}
 use mathlib.Core.List.{List, [], ◌∷◌}
@@ -48,6 +48,35 @@ pub after32 : (o : List ℕ) → be32 o 1 ≡ be32 (drop 1 o) 0
 unfolding be32
 after32 [] = refl
 after32 (kind ∷ body) = refl
+
+-- the same of the octet and the words that the code reads
+module _ (o : List ℕ) {k : ℕ} (is : k ≡ get_or o 0 0) where
+  kind_is : {n : ℕ} → k ≡ n → next_kind o ≡ n
+  kind_is e = first_octet o ∙ sym is ∙ e
+
+  pub read_end : k ≡ 0x00 → End ≡ next_card o
+  read_end e = whole o (kind_is e) refl zero-le
+
+  pub read_cut_order : k ≡ 0x10 → length o < 5 → Refused 21 ≡ next_card o
+  read_cut_order e h = cut o (kind_is e) refl (lit< tt) h
+
+  pub read_cut_code : k ≡ 0x11 → length o < 3 → Refused 21 ≡ next_card o
+  read_cut_code e h = cut o (kind_is e) refl (lit< tt) h
+
+  pub read_cut_millivolts : k ≡ 0x12 → length o < 3 → Refused 21 ≡ next_card o
+  read_cut_millivolts e h = cut o (kind_is e) refl (lit< tt) h
+
+  pub read_other : k ≢ 0x00 → k ≢ 0x10 → k ≢ 0x11 → k ≢ 0x12 → Refused 20 ≡ next_card o
+  read_other = other o (kind_is refl)
+
+  pub read_order : {w : ℕ} → w ≡ be32 o 1 → k ≡ 0x10 → 5 ≤ length o → FlushOrder w ≡ next_card o
+  read_order f e h = ap FlushOrder (f ∙ after32 o) ∙ whole o (kind_is e) refl (there o h)
+
+  pub read_code : {w : ℕ} → w ≡ be16 o 1 → k ≡ 0x11 → 3 ≤ length o → RawCode w ≡ next_card o
+  read_code f e h = ap RawCode (f ∙ after16 o) ∙ whole o (kind_is e) refl (there o h)
+
+  pub read_millivolts : {w : ℕ} → w ≡ be16 o 1 → k ≡ 0x12 → 3 ≤ length o → Millivolts w ≡ next_card o
+  read_millivolts f e h = ap Millivolts (f ∙ after16 o) ∙ whole o (kind_is e) refl (there o h)
 
 -- To show something of the card that a kind and its octets give, show it of the end and of each card whose octets are there.
 of_each : (P : Card → Type 0) (k : ℕ) (body : List ℕ) → known k ≡ true → octets_after k ≤ length body → P End

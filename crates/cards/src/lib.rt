@@ -1,4 +1,6 @@
 // Charge cards: what stands in a payload, card by card.
+#![tactic(auto)]
+
 mod payload;
 
 pub use payload::{next, part, rest};

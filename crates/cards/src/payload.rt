@@ -5,6 +5,7 @@ ghost use Rattle.cards.specs.Payload.{Next, HandsCard, HandsRest, next_card, wid
 use crate::Card;
 
 // What stands next. An empty payload reads as 00, an end.
+#[tactic(auto, using(crate::proofs::Kind::read_end, crate::proofs::Kind::read_cut_order, crate::proofs::Kind::read_cut_code, crate::proofs::Kind::read_cut_millivolts, crate::proofs::Kind::read_other, crate::proofs::Kind::read_order, crate::proofs::Kind::read_code, crate::proofs::Kind::read_millivolts))]
 pub fn next(payload: &[u8]) -> Card
     ensures { Next payload.now result }
 {
@@ -49,6 +50,7 @@ fn width_of(payload: &[u8]) -> usize
 }
 
 // The next card, a part of the payload; empty on a refusal or end.
+#[tactic(auto, using(crate::proofs::Width::within))]
 pub fn part(payload: &[u8]) -> &[u8]
     ensures { HandsCard payload.now payload.entry.ref_ptr result.now result.ref_ptr }
 {
@@ -57,6 +59,7 @@ pub fn part(payload: &[u8]) -> &[u8]
 }
 
 // What comes after the next card, a part of the payload; empty on a refusal or end.
+#[tactic(auto, using(crate::proofs::Width::within))]
 pub fn rest(payload: &[u8]) -> &[u8]
     ensures { HandsRest payload.now payload.entry.ref_ptr result.now result.ref_ptr }
 {

@@ -1,9 +1,11 @@
 // The volts that a card gives under a calibration.
+#![tactic(auto)]
+
 mod reading;
 
 pub use reading::read;
 
-#[derive(Drop)]
+#[derive(Clone, Copy)]
 pub struct Calibration {
     pub gain: f64,
     pub offset: f64,
