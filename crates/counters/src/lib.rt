@@ -2,11 +2,13 @@
 // them in the room above, which says when they count.
 //
 // Each call takes any counters and any numbers at all, and always has an answer.
+#![tactic(auto)]
+
 mod counting;
 mod latent_errors;
 
 // They wrap.
-#[derive(Drop)]
+#[derive(Clone, Copy)]
 pub struct Counters {
     pub passed: u64,
     pub discarded: u64,

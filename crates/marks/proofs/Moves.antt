@@ -11,7 +11,7 @@ use Rattle.octets.proofs.Bools.{by_cases, either, both}
 use Rattle.marks.specs.declared.Marks.{Marks}
 use Rattle.marks.specs.Window.{most, bits, value_of, words_of, number, mark, none, clear_from, set, reach, moved}
 use Rattle.marks.proofs.Digits.{digit, none_above, digit_below_2, digit_set, set_below, digit_moved_zero, digit_moved_suc}
-use Rattle.marks.proofs.Words.{Fit, digit_at, number_of, marks_of, marks_by}
+use Rattle.marks.proofs.Words.{Fit, digit_at, number_of, marks_back, marks_by}
 use Rattle.marks.proofs.Counted.{with_bit, bit_fit, bit_value, bit_none}
 use Rattle.marks.proofs.Reach.{reach_low}
 
@@ -93,7 +93,7 @@ module _ (k : ℕ) (marks r : Marks) (fit : Fit (words_of marks))
       let none = eqb-true (mark k marks) 0 told.1 in
       let more = ap (λ (m : ℕ). number r + m * 2 ^ k) (sym none) ∙ grown (ltb-true k most told.0) in
       marks_by r _ _ are bit_fits (ap value_of (sym are) ∙ omega (arith, more, zero-mul (2 ^ k))))
-      (λ not. marks_by r _ _ are bit_fits (ap value_of (sym are) ∙ unchanged not) ∙ marks_of marks fit)
+      (λ not. marks_by r _ _ are bit_fits (ap value_of (sym are) ∙ unchanged not) ∙ marks_back marks fit)
 
 -- one move, whatever the history
 module _ (h : ℕ) (marks : Marks) where

@@ -83,9 +83,9 @@ value_fit (w ∷ words) fit =
     rw (apart, pow-add 2 (bits * length words) bits) (digits_lt (value_fit words fit.1) fit.0)
 
 -- and marks do
-pub marks_of : (marks : Marks) → Fit (words_of marks) → marks_of (number marks) ≡ marks
+pub marks_back : (marks : Marks) → Fit (words_of marks) → marks_of (number marks) ≡ marks
 unfolding number marks_of word_in
-marks_of marks fit = rw (at 0, at 1, at 2, at 3, at 4, at 5, at 6, last)
+marks_back marks fit = rw (at 0, at 1, at 2, at 3, at 4, at 5, at 6, last)
   where
     at : (i : ℕ) → word_in i (value_of (words_of marks)) ≡ get_or (words_of marks) i 0
     at i = word_at i (words_of marks) fit
@@ -103,7 +103,7 @@ eight p q r s t u v w = rw (p, q, r, s, t, u, v, w)
 pub marks_by : (marks : Marks) (words : List ℕ) (n : ℕ) → words_of marks ≡ words → Fit words → value_of words ≡ n → marks ≡ marks_of n
 unfolding number
 marks_by marks words n are fit is =
-    sym (marks_of marks (subst Fit (sym are) fit)) ∙ ap marks_of (ap value_of are ∙ is)
+    sym (marks_back marks (subst Fit (sym are) fit)) ∙ ap marks_of (ap value_of are ∙ is)
 
 -- marks with the same words are one number
 all_same : (a b : Marks) → same_words a b ≡ true → number a ≡ number b
@@ -135,7 +135,7 @@ clear_by h marks low fit is =
     let n = number marks in
     by_cases (ltb n (2 ^ h))
     (λ below.
-    let cut : low ≡ marks = is ∙ ap marks_of (mod-eq_of_lt (ltb-true n (2 ^ h) below)) ∙ marks_of marks fit in
+    let cut : low ≡ marks = is ∙ ap marks_of (mod-eq_of_lt (ltb-true n (2 ^ h) below)) ∙ marks_back marks fit in
     rw (below, cut) (itself marks))
     (λ above.
     by_cases (same_words marks low)

@@ -3,13 +3,15 @@
 // Above this room marks are known by these calls, by `mark` of specs/Window and by the laws, so that how they are kept can change; only the
 // words of a state and computed examples look inside. Any marks at all may be handed in, with any mark asked for and any history length:
 // each call has an answer.
+#![tactic(auto)]
+
 mod number;
 mod window;
 
 pub use window::{clear_from, is_set, none, set, slide};
 
 // Word i has the marks 64 i to 64 i + 63, the lowest at bit 0. The words are public, since any state at all may be handed in.
-#[derive(Drop)]
+#[derive(Clone, Copy)]
 pub struct Marks {
     pub w0: u64,
     pub w1: u64,

@@ -1,5 +1,7 @@
 // Numbering (document 01, "Numbering and recovery"): the generator of one stream. Generator and number are values: a step takes the
 // generator and hands the next one back.
+#![tactic(auto)]
+
 mod steps;
 
 #[derive(Drop)]

@@ -63,12 +63,12 @@ record FirstMarks (vector : Bool) (h : ℕ) : Type 0 where
   bare : (vector || clear_from 0 (first_marks vector)) ≡ true
   marked : (not vector || eqb (mark 0 (first_marks vector)) 1) ≡ true
 
-first_marks : (vector : Bool) (h : ℕ) → 1 ≤ h → h ≤ most → FirstMarks vector h
+marks_of_first : (vector : Bool) (h : ℕ) → 1 ≤ h → h ≤ most → FirstMarks vector h
 unfolding first_marks
-first_marks true h low high =
+marks_of_first true h low high =
     let kept = set_first h low high none (none_from h) in
     record { fits = kept.0; bare = refl; marked = eq-eqb _ _ kept.1 }
-first_marks false h low high = record { fits = none_from h; bare = none_from 0; marked = refl }
+marks_of_first false h low high = record { fits = none_from h; bare = none_from 0; marked = refl }
 
 module _ (s : State) (ok : Sound s) where
   -- the state that a packet's effect leaves is sound
@@ -139,7 +139,7 @@ module _ (s : State) (ok : Sound s) where
     first_sound : s.take_any ≡ true → After false 0 (tracing s number) (numbered s number)
     unfolding first restarted
     first_sound any =
-        let m = first_marks (is_vector s.setup) s.setup.history history_low history_high in
+        let m = marks_of_first (is_vector s.setup) s.setup.history history_low history_high in
         let marked : is_vector s.setup ≡ true → mark 0 (first_marks (is_vector s.setup)) ≡ 1 =
         λ v. rw v (eqb-true _ _ (rw v at m.marked)) in
         rw (by_take_any s number any)

@@ -1,6 +1,8 @@
 // Recovery of one stream (document 01, "Numbering and recovery"): the recovery state with both rules, its timer and counters, and the
 // latent error test. "each step takes the state and hands the next one back": a state goes in by `self` and the next one comes back. Each
 // call takes any value at all and answers or refuses by the paper's number; a refused step hands the state back as it was.
+#![tactic(auto)]
+
 mod latent_errors;
 mod packets;
 mod resets;
@@ -15,10 +17,10 @@ use setup::Setup;
 
 // Ticks left, which this room alone can make: they begin as the full ticks of a setup and go down one by one, and those of a stored state
 // come back with it (`State::stored`).
-#[derive(Drop)]
+#[derive(Clone, Copy)]
 pub struct Left(u64);
 
-#[derive(Drop)]
+#[derive(Clone, Copy)]
 pub struct State {
     pub setup: Setup,
     pub newest: u16,
@@ -33,58 +35,58 @@ pub struct State {
     pub base: u64,
 }
 
-#[derive(Drop)]
+#[derive(Clone, Copy)]
 pub enum Begun {
     Ready(State),
     Refused(u8),
 }
 
-#[derive(Drop)]
+#[derive(Clone, Copy)]
 pub enum Packet {
     Numbered(u16),
     Tagless,
 }
 
-#[derive(Drop)]
+#[derive(Clone, Copy)]
 pub enum Verdict {
     Pass,
     Discard,
     Refused(u8),
 }
 
-#[derive(Drop)]
+#[derive(Clone, Copy)]
 pub struct Heard {
     pub verdict: Verdict,
     pub state: State,
 }
 
 // A tick that timed out is a reset.
-#[derive(Drop)]
+#[derive(Clone, Copy)]
 pub enum Ticked {
     Tick,
     Reset,
     Refused(u8),
 }
 
-#[derive(Drop)]
+#[derive(Clone, Copy)]
 pub struct Timed {
     pub ticked: Ticked,
     pub state: State,
 }
 
-#[derive(Drop)]
+#[derive(Clone, Copy)]
 pub enum Change {
     Done,
     Refused(u8),
 }
 
-#[derive(Drop)]
+#[derive(Clone, Copy)]
 pub struct Changed {
     pub change: Change,
     pub state: State,
 }
 
-#[derive(Drop)]
+#[derive(Clone, Copy)]
 pub enum Latent {
     Agrees,
     Error,

@@ -41,6 +41,7 @@ impl State {
     }
 
     // The first place is traced before the timer is asked: the other way round a step takes 0.6 to 1.1 ns more (docs/MEASURES.md).
+    #[tactic(auto, unfolding(crate::specs::Packets::packet_of, crate::specs::Packets::heard, crate::specs::Packets::tracing, crate::specs::Packets::numbered, crate::specs::Packets::staying, setup::specs::Range::is_vector))]
     pub fn packet(self, packet: Packet) -> Heard
         ensures { Hears self packet result }
     {

@@ -39,6 +39,7 @@ impl State {
     }
 
     // The reset itself, of the call and of a timeout.
+    #[tactic(auto, unfolding(crate::specs::Resets::reset_state))]
     pub(crate) fn anew(self) -> State
         ensures { result ≡ reset_state self }
     {

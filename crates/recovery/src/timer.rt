@@ -30,6 +30,7 @@ impl Left {
 
 impl State {
     // 0 stays 0; from 1 it becomes 0 and a reset follows, which sets it; else less 1.
+    #[tactic(auto, using(std::proofs::lemmas::Bool::Decides::nat_tests), unfolding(crate::specs::Timer::tick_of, crate::specs::Timer::timed, crate::specs::Resets::reset_state))]
     pub fn tick(mut self) -> Timed
         ensures { Times self result }
     {

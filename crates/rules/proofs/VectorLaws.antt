@@ -69,9 +69,9 @@ module _ (h newest : ℕ) (marks : Marks) (number k : ℕ) where
   comes_late e p = ap (by_difference h newest marks number) e ∙ rw (lt-leb h k p)
 
 -- order is spared only at d = 1
-pub out_of_order : (newest number : ℕ) → out_of_order (difference newest number) ≡ cond (eqb (apart newest number) 1) 0 1
+pub order_spared : (newest number : ℕ) → out_of_order (difference newest number) ≡ cond (eqb (apart newest number) 1) 0 1
 unfolding difference signed out_of_order
-out_of_order newest number =
+order_spared newest number =
     either unless_one (eqb far 0)
     (λ z. rw (eqb-true far 0 z))
     (λ _. either unless_one (ltb far 32768)

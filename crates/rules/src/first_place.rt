@@ -14,6 +14,7 @@ fn open(vector: bool) -> First
 }
 
 // The n-th place of the window after a slide of d places.
+#[tactic(auto, using(crate::proofs::FirstLaws::carried_in, crate::proofs::FirstLaws::carried_out))]
 fn carry(history: u16, n: u16, d: u32) -> First
     requires le_n { 1 ≤ n }
     requires le_d { 1 ≤ d }

@@ -2,6 +2,8 @@
 // first packet's place (CR 7). A recovery state is made of that in the room above.
 //
 // Each call takes any numbers and any marks at all, and always has an answer.
+#![tactic(auto)]
+
 mod by_rule;
 mod difference;
 mod effects;
@@ -14,7 +16,7 @@ mod vector;
 use marks::Marks;
 
 // The counts are what the packet adds.
-#[derive(Drop)]
+#[derive(Clone, Copy)]
 pub struct Effect {
     pub passes: bool,
     pub newest: u16,
@@ -26,7 +28,7 @@ pub struct Effect {
 
 // Which of the window's places is the first packet's, counted from the newest, which is the 1st; 0 where it is none of them. The number is
 // public, since any state at all may be handed in.
-#[derive(Drop)]
+#[derive(Clone, Copy)]
 pub struct First(pub u16);
 
 // The first packet's place after a packet, and how many places below it left the window unpassed.

@@ -6,6 +6,7 @@ use crate::effects::{accept, discard};
 use marks::Marks;
 
 // Passed if taken, else discarded.
+#[tactic(auto, using(std::proofs::lemmas::Bool::Decides::nat_tests), unfolding(crate::specs::NoNumber::unnumbered))]
 pub fn hear_no_number(taken: u8, newest: u16, marks: Marks) -> Effect
     ensures { HearsNoNumber taken newest marks result }
 {

@@ -1,4 +1,6 @@
 // The setup of a recovery state (document 01, "Numbering and recovery"): its values, its check, and its timeout in ticks.
+#![tactic(auto)]
+
 mod conversion;
 mod range;
 mod values;
@@ -8,14 +10,14 @@ pub use range::check_numbers;
 // "two kinds of number that can't be mixed": `Milliseconds::ticks` is the one way from the first to the second. The number of milliseconds
 // is public, since any setup at all may be handed in. That of ticks is this room's own, so that no other room has ticks but by the
 // conversion.
-#[derive(Drop)]
+#[derive(Clone, Copy)]
 pub struct Milliseconds(pub u32);
 
 #[derive(Drop)]
 pub struct Ticks(u64);
 
 // Any values may stand in the fields; `check` says which are in range.
-#[derive(Drop)]
+#[derive(Clone, Copy)]
 pub struct Setup {
     // 0 vector, 1 match
     pub rule: u8,

@@ -2,7 +2,7 @@
 -- place as the window has moved on, and the holes are the places below it that the window leaves unpassed. For every history length that
 -- there is. Assumes nothing.
 use mathlib.Core.Path.{◌≡◌, refl, sym}
-use mathlib.Core.Bool.{true, false, cond}
+use mathlib.Core.Bool.{true, false}
 use mathlib.Core.Logic.{inr}
 use mathlib.Core.List.{List, [], ◌∷◌}
 use Prim.Native.Nat.{ℕ, ◌+◌, ◌-◌, ◌%◌, ◌≤◌, ◌<◌, min}
@@ -16,13 +16,13 @@ use Rattle.marks.specs.Window.{most, lost_in}
 use Rattle.rules.specs.declared.First.{First}
 use Rattle.rules.specs.declared.Traced.{Traced}
 use Rattle.rules.specs.Difference.{apart}
-use Rattle.rules.specs.FirstPlace.{nth, nowhere, opened, carried, holes_in, standing, traced}
+use Rattle.rules.specs.FirstPlace.{opened, carried, holes_in, standing, traced}
 use Rattle.rules.specs.Places.{newest_place, first_place, place, passes, after, unpassed, moved_on, before_first}
 use Rattle.rules.proofs.FirstLaws.{nowhere_carried, carried_in, carried_out, nowhere_holes, nth_holes}
 use Rattle.rules.proofs.Places.Passing.{passes_above, passes_below}
 use Rattle.rules.proofs.Places.Counting.{unpassed_zero, unpassed_split, unpassed_outside}
 use Rattle.rules.proofs.Places.Sum.{newest_alone, newest_next, first_next}
-use Rattle.rules.proofs.Places.Shown.{lost_in}
+use Rattle.rules.proofs.Places.Shown.{shown_lost}
 use Rattle.rules.proofs.Places.Step.{Follows}
 
 -- what is kept of the first place and counted with a numbered packet, as the places say that passed before it and after it
@@ -108,16 +108,16 @@ module _ (h p : ℕ) (ps : List ℕ) (hs : 1 ≤ h) (room : h ≤ most) (newest 
       (λ t.
       let from : F + 1 - h + gone h moved ≡ N + 1 - h = omega (arith, ltb-true moved h t, f.kept) in
       let within : going h moved d ≤ h = omega arith in
-      rw from (sym (lost_in h hs room qs N marks f.shown (going h moved d) within (omega (arith, f.kept)))))
+      rw from (sym (shown_lost h hs room qs N marks f.shown (going h moved d) within (omega (arith, f.kept)))))
       (λ t. let none : going h moved d ≡ 0 = omega (arith, ltb-false moved h t) in rw (none, unpassed_zero))
 
   -- places that have passed later: the first is the same, the newest stands d further on, and none of the new ones lies among what the
   -- window has left
   module _ (later : List ℕ) (d : ℕ) (same : first_place later ≡ F) (on : newest_place later ≡ N + d) (few : d < 65536)
       (left : (n : ℕ) → n ≤ moved_on qs + d → unpassed later (F + 1 - h) n ≡ unpassed qs (F + 1 - h) n) where
-    moved_on : moved_on later ≡ moved_on qs + d
+    moved_further : moved_on later ≡ moved_on qs + d
     unfolding moved_on
-    moved_on = rw (same, on) (omega (arith, f.kept.up))
+    moved_further = rw (same, on) (omega (arith, f.kept.up))
 
     newest_there : N ≡ F + moved_on qs
     unfolding moved_on
@@ -128,14 +128,14 @@ module _ (h p : ℕ) (ps : List ℕ) (hs : 1 ≤ h) (room : h ≤ most) (newest 
     holes_grow =
         let m : ℕ = moved_on qs in
         let within : gone h (m + d) ≤ m + d = omega arith in
-        rw (moved_on, same, left _ within, gone_more h m d, unpassed_split, holes_standing h m d marks hs, lost_row m d newest_there)
+        rw (moved_further, same, left _ within, gone_more h m d, unpassed_split, holes_standing h m d marks hs, lost_row m d newest_there)
 
     keeps : (now : ℕ) → now ≡ newest_place later % 65536 → Keeps h qs later (traced true h false newest marks (standing h (moved_on qs)) now)
     unfolding traced
     keeps now at =
         let far : apart newest now ≡ d = rw (f.at, at, on, apart_places N (N + d) (omega arith) (omega arith)) (omega arith) in
         record {
-          stands = rw (far, moved_on) (carried_standing h (moved_on qs) d);
+          stands = rw (far, moved_further) (carried_standing h (moved_on qs) d);
           holes_grown = rw far holes_grow;
         }
 

@@ -57,8 +57,8 @@ module _ (h : ℕ) (low : 1 ≤ h) (high : h ≤ most) (ps : List ℕ) (top : �
       clear_one k kh = rw (shown.mark_at k kh) (flip (among (top - k) ps))
 
   -- so a slide loses the places that the window leaves unpassed
-  pub lost_in : (d : ℕ) → d ≤ h → h ≤ top → lost_in h d marks ≡ unpassed ps (top + 1 - h) d
-  lost_in d within room = (slides_mean h d marks low high within).left_clear ∙ last_marks room d within
+  pub shown_lost : (d : ℕ) → d ≤ h → h ≤ top → lost_in h d marks ≡ unpassed ps (top + 1 - h) d
+  shown_lost d within room = (slides_mean h d marks low high within).left_clear ∙ last_marks room d within
 
   -- a place of the window passes: its mark is set
   pub shown_set : (k : ℕ) → k < h → h ≤ top → Shown h top ((top - k) ∷ ps) (set k marks)

@@ -22,7 +22,7 @@ use Rattle.rules.proofs.Places.Among.{none_above, near_true, near_false}
 use Rattle.rules.proofs.Places.Passing.{far, again, meets}
 use Rattle.rules.proofs.Places.Counting.{unpassed_split, unpassed_outside}
 use Rattle.rules.proofs.Places.Sum.{Kept, newest_alone, newest_next, first_next, kept_after}
-use Rattle.rules.proofs.Places.Shown.{Shown, shown_slid, shown_set, lost_in}
+use Rattle.rules.proofs.Places.Shown.{Shown, shown_slid, shown_set, shown_lost}
 use Rattle.rules.proofs.Places.Nearest.{nearest_bears, Leads, on, back, leads}
 
 -- the newest number and the marks stand for the passed places
@@ -103,7 +103,7 @@ module _ (h p : ℕ) (ps : List ℕ) (hs : 1 ≤ h) (room : h ≤ most) (number 
       goes (onward h number marks k) f.kept (omega arith) (omega arith) new refl
       (rw top (sym (nearest_bears N number bits)))
       (rw (top, e) (rw sub-zero at set_there))
-      (rw gap (lost_in h hs room (p ∷ ps) N marks f.shown k (omega arith) low))
+      (rw gap (shown_lost h hs room (p ∷ ps) N marks f.shown k (omega arith) low))
 
   -- at the newest place or behind it, less than h from it
   late_obeys : (newest : ℕ) (marks : Marks) (k : ℕ) → Follows h (p ∷ ps) newest marks → k < h → q + k ≡ N

@@ -35,6 +35,7 @@ first_next q p ps = refl
 
 pub kept_next : (h q p : ℕ) (ps : List ℕ) → h ≤ 65536 → Kept h (p ∷ ps) → newest_place (p ∷ ps) < q + h → among q (p ∷ ps) ≡ false
     → Kept h (q ∷ p ∷ ps)
+unfolding first_place newest_place
 kept_next h q p ps hs kept near new =
     record {
       turn = rw (first_next q p ps) kept.turn;
