@@ -1,10 +1,12 @@
 // What a call on a recovery state answers, whichever call it is, and the answer as one number.
+#![tactic(auto)]
+
 mod numbers;
 
 pub use numbers::number_of;
 
 // A tick that timed out is a timeout.
-#[derive(Drop)]
+#[derive(Clone, Copy)]
 pub enum Answer {
     Pass,
     Discard,

@@ -1,12 +1,14 @@
 // A call on a recovery state by its name, with an answer of one kind: what the tape and the door for C have in common. Whatever state is
 // handed in, there is an answer, and a refusal hands the state back as it was.
+#![tactic(auto)]
+
 mod answering;
 
 pub use answering::take;
 use answers::Answer;
 use recovery::{Packet, State};
 
-#[derive(Drop)]
+#[derive(Clone, Copy)]
 pub enum Call {
     Packet(Packet),
     Tick,
@@ -16,7 +18,7 @@ pub enum Call {
 }
 
 // The answer, and the next state.
-#[derive(Drop)]
+#[derive(Clone, Copy)]
 pub struct Called {
     pub answer: Answer,
     pub state: State,

@@ -2,6 +2,7 @@
 ghost use Rattle.std.specs.Prelude.{◌≡◌};
 ghost use Rattle.events.specs.Event.{known as is_known, Lasts, Refuses};
 
+#[tactic(auto, unfolding(crate::specs::Event::known))]
 fn known(kind: u8) -> bool
     ensures { result ≡ is_known kind }
 {
@@ -9,6 +10,7 @@ fn known(kind: u8) -> bool
 }
 
 // The octets behind an event's kind.
+#[tactic(auto, unfolding(crate::specs::Event::width))]
 pub fn width(kind: u8) -> usize
     ensures { Lasts kind result }
 {

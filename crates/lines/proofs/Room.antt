@@ -2,7 +2,7 @@
 use Prim.Native.Nat.{ℕ, ◌+◌, ◌-◌, ◌≤◌}
 use native.Mathlib.Omega.{arith}
 use mathlib.Core.Path.{◌≡◌, sym, ap, ◌∙◌}
-use mathlib.Core.Bool.{false}
+use mathlib.Core.Bool.{Bool, true, false}
 use mathlib.Core.List.{List, ◌++◌}
 use lib.ListN.{length, take}
 use lib.Dec.{leb}
@@ -50,3 +50,7 @@ shown {line} {page} {at} {r} {later} room w =
       same = same;
       within = omega (arith, w.short);
     }
+
+-- what the test says that was made of a page's length
+pub said : (at : ℕ) (page : List ℕ) {b : Bool} → b ≡ leb (at + longest) (length page) → b ≡ true → at + longest ≤ length page
+said at page e t = leb-true (at + longest) (length page) (sym e ∙ t)

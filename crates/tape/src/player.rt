@@ -7,6 +7,7 @@ use counters::Counters;
 use turns::{Bench, Outcome};
 
 // The counters in the order of the last line.
+#[tactic(auto, unfolding(crate::specs::Player::figures))]
 fn figures(k: Counters) -> [u64; 9]
     ensures { result ≡ figures_of k }
 {
@@ -46,6 +47,7 @@ fn play(tape: &[u8], page: &mut [u8]) -> usize
 }
 
 // The whole output: "26 is checked before all else on a tape".
+#[tactic(auto, using(crate::proofs::Whole::over, crate::proofs::Whole::not_over))]
 fn output(tape: &[u8], page: &mut [u8]) -> usize
     requires { enough ≡ length page.old }
     ensures { PageHolds (output_of tape.now) result page.new }

@@ -1,5 +1,7 @@
 // One turn of the bench (document 01, "The bench tape"): an event of the tape is checked, run and given its line, or the end is reached.
 // Any octets, any place and any state have an outcome.
+#![tactic(auto)]
+
 mod turn;
 
 use counters::Counters;
@@ -8,7 +10,7 @@ use recovery::State;
 pub use turn::take_turn;
 
 // The bench before its setup, and with the state that runs.
-#[derive(Drop)]
+#[derive(Clone, Copy)]
 pub enum Bench {
     Waits,
     Running(State),

@@ -16,6 +16,7 @@ enum Said {
     Fault(u8),
 }
 
+#[tactic(auto, unfolding(crate::specs::Turn::setup_at))]
 fn setup_at(tape: &[u8], at: usize) -> Setup
     requires { at < length tape.now }
     ensures { result ≡ setup_at tape.now at }
@@ -32,6 +33,7 @@ fn setup_at(tape: &[u8], at: usize) -> Setup
     )
 }
 
+#[tactic(auto, unfolding(crate::specs::Turn::call_at))]
 fn call_at(tape: &[u8], at: usize) -> Call
     requires { at < length tape.now }
     ensures { result ≡ call_at tape.now at }
@@ -69,6 +71,7 @@ fn line_of(answer: Answer) -> Said
 }
 
 // An event that is no setup.
+#[tactic(auto, unfolding(crate::specs::Turn::runs))]
 fn runs(tape: &[u8], at: usize, state: State) -> Outcome
     requires { at < length tape.now }
     ensures { result ≡ runs_by tape.now at state }
@@ -83,6 +86,7 @@ fn runs(tape: &[u8], at: usize, state: State) -> Outcome
 }
 
 // A setup.
+#[tactic(auto, unfolding(crate::specs::Turn::begins))]
 fn begins(tape: &[u8], at: usize) -> Outcome
     requires { at < length tape.now }
     ensures { result ≡ begins_by tape.now at }
@@ -117,6 +121,7 @@ fn event(tape: &[u8], at: usize, bench: Bench) -> Outcome
 }
 
 // The event at a place, or what stands at the end.
+#[tactic(auto, unfolding(crate::specs::Turn::outcome_at))]
 pub fn take_turn(tape: &[u8], at: usize, bench: Bench) -> Outcome
     ensures { Turns tape.now at bench result }
 {
