@@ -11,7 +11,7 @@ use Rattle.encoding.specs.declared.Encoding.{Encoding}
 use Rattle.encoding.specs.declared.Sequence.{Sequence}
 use Rattle.encoding.specs.Encodings.{sequence}
 
--- a header in words: the addresses, whether there is a C_TAG and its VLAN id, whether there is a number and which, the last type, and where
+-- a header in words: the addresses, whether there is a C-TAG and its VLAN id, whether there is a number and which, the last type, and where
 -- the payload starts; behind these eight the path or LAN id
 unfoldable pub header_words : Header → Sequence → List ℕ
 header_words h s =
@@ -26,7 +26,7 @@ header_words h s =
     ∷ s.path
     ∷ []
 
--- as many of them as a call writes: eight of an R_TAG stream's frame, which has no id, and nine in the other encodings
+-- as many of them as a call writes: eight of an R-TAG stream's frame, which has no id, and nine in the other encodings
 unfoldable pub written : ℕ → Header → Sequence → List ℕ
 written n h s = take n (header_words h s)
 

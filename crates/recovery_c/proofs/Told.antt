@@ -28,7 +28,7 @@ use Rattle.calls.proofs.SetupStays.{setup_stays}
 use Rattle.answers.specs.Numbers.{number_of}
 use Rattle.states.specs.Fields.{held, marks_in, state_of, words_of, Keeps, KeepsShort}
 use Rattle.states.proofs.ReadLaws.{Short}
-use Rattle.states.proofs.ShortLaws.{past, none_past, known, same_short}
+use Rattle.states.proofs.ShortLaws.{past, short_has_none, known, same_short}
 use Rattle.states.proofs.SameWords.{room}
 use Rattle.recovery_c.specs.Recoveries.{begin_checks, StepsTo, BeginsTo}
 use Rattle.recovery_c.proofs.Kept.{kept}
@@ -64,7 +64,7 @@ module _ (w : List ℕ) (call : Call) {s : State} {called : Called} {r : ℕ} (p
   nothing_past =
       let few : s.setup.history ≤ 64 = rw p.is p.history in
       let next = (sound_kept s ok call).1 in
-      known w p.clear ∙ sym (rw a (none_past (answered s call).state next (rw (setup_stays s call) few)))
+      known w p.clear ∙ sym (rw a (short_has_none (answered s call).state next (rw (setup_stays s call) few)))
 
   pub short_told : {kept : Bool} {later : List ℕ} → KeepsShort called.state w kept later → StepsTo call w r later
   short_told k = step_told w call p.here p.is a e (rw (same_short w called.state nothing_past) at k)

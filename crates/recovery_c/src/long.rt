@@ -30,15 +30,45 @@ pub(crate) fn numbered(state: &mut [u64], number: u16) -> u8
     step(Call::Packet(Packet::Numbered(number)), state)
 }
 
-// Each call by itself, so that the compiler makes a way of its own for it.
+fn tagless(state: &mut [u64]) -> u8
+    ensures { StepsTo (call.Packet packet.Tagless) state.old result state.new }
+{
+    step(Call::Packet(Packet::Tagless), state)
+}
+
+fn tick(state: &mut [u64]) -> u8
+    ensures { StepsTo call.Tick state.old result state.new }
+{
+    step(Call::Tick, state)
+}
+
+fn reset(state: &mut [u64]) -> u8
+    ensures { StepsTo call.Reset state.old result state.new }
+{
+    step(Call::Reset, state)
+}
+
+fn latent_reset(state: &mut [u64]) -> u8
+    ensures { StepsTo call.LatentReset state.old result state.new }
+{
+    step(Call::LatentReset, state)
+}
+
+// Each call by itself, so that the compiler makes a way of its own for it, and one that takes nothing but the lent words: so a call leaves
+// its own room on the stack before it goes there.
 pub(crate) fn step_apart(call: Call, state: &mut [u64]) -> u8
     ensures { StepsTo call state.old result state.new }
 {
     match call {
-        Call::Packet(packet) => step(Call::Packet(packet), state),
-        Call::Tick => step(Call::Tick, state),
-        Call::Reset => step(Call::Reset, state),
-        Call::LatentReset => step(Call::LatentReset, state),
+        Call::Packet(packet) => {
+            match packet {
+                Packet::Numbered(number) => numbered(state, number),
+                Packet::Tagless => tagless(state),
+            }
+        }
+        Call::Tick => tick(state),
+        Call::Reset => reset(state),
+        Call::LatentReset => latent_reset(state),
         Call::LatentTest => step(Call::LatentTest, state),
     }
 }

@@ -1,13 +1,14 @@
 -- What is known of lent words by what was read from them. Assumes nothing.
-use Prim.Native.Nat.{ℕ, ◌≤◌}
+use Prim.Native.Nat.{ℕ, ◌<◌, ◌≤◌}
 use native.Mathlib.Omega.{arith}
 use mathlib.Core.Path.{◌≡◌}
 use mathlib.Core.Bool.{Bool, true, false, cond, ◌&&◌}
 use mathlib.Core.List.{List}
 use lib.Dec.{leb, eqb}
-use borrow.Author.Tests.{leb-true, eqb-false}
-use Rattle.octets.proofs.Bools.{by_cases, either, both}
+use borrow.Author.Tests.{leb-true, eqb-false, ne_eqb}
+use Rattle.octets.proofs.Bools.{by_cases, either, both, and_none}
 use Rattle.setup.specs.Range.{checked}
+use Rattle.setup.proofs.InRange.{in_range}
 use Rattle.recovery.specs.declared.State.{State}
 use Rattle.recovery.specs.Soundness.{sound}
 use Rattle.recovery.proofs.SoundLaws.{sound_says}
@@ -34,6 +35,13 @@ module _ (b : Bool) (t : State) where
   read_nothing = either (λ (r : Held). held_in.Nothing ≡ r → b ≡ false) b (λ _ e. absurd (differs_too e)) (λ no _. no)
 
 module _ (w : List ℕ) where
+  -- a setup out of range, as one with a use that there is not
+  pub out_of_range : eqb (checked (setup_in w)) 0 ≡ false → ReadsState w held_in.Nothing
+  out_of_range outside = rw (and_none (held w) outside)
+
+  pub no_use : 1 < word 3 w → ReadsState w held_in.Nothing
+  no_use over = out_of_range (ne_eqb _ _ (λ (met : checked (setup_in w) ≡ 0). omega (arith, over, (in_range (setup_in w) met).usage)))
+
   -- a state was read
   pub there : {s : State} → ReadsState w (held_in.State s) → (held w ≡ true) × (s ≡ state_of w)
   there p =

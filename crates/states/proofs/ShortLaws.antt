@@ -18,8 +18,8 @@ use Rattle.states.specs.Fields.{word, none_past, marks_in, short_in}
 abbrev pub past : Marks → List ℕ
 past marks = marks.w1 ∷ marks.w2 ∷ marks.w3 ∷ marks.w4 ∷ marks.w5 ∷ marks.w6 ∷ marks.w7 ∷ []
 
-pub none_past : (s : State) → sound s ≡ true → s.setup.history ≤ 64 → past s.marks ≡ raised 7 []
-none_past s ok short = first_alone s.setup.history s.marks short (sound_says s ok).clear_above
+pub short_has_none : (s : State) → sound s ≡ true → s.setup.history ≤ 64 → past s.marks ≡ raised 7 []
+short_has_none s ok short = first_alone s.setup.history s.marks short (sound_says s ok).clear_above
 
 at : {a b : List ℕ} → a ≡ b → (i : ℕ) → get_or a i 0 ≡ get_or b i 0
 at e i = ap (λ (l : List ℕ). get_or l i 0) e

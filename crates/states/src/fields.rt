@@ -110,6 +110,7 @@ fn setup_fits(state: &[u64]) -> bool
 // with one test for each number that has a range: whether its field can hold the word and whether the value is in range then say nothing
 // new, and the compiler leaves these tests out. The use is asked by itself before: of three flags in one test the compiler would ask two
 // again (docs/MEASURES.md).
+#[tactic(auto, using(crate::proofs::ReadLaws::no_use))]
 fn read_with(state: &[u64], marks: Marks) -> Held
     requires in_bounds { 31 ≤ length state.now }
     requires marks_value { marks ≡ marks_in state.now }
