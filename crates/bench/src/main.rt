@@ -1,14 +1,18 @@
 // The bench program (document 01, "The bench tape"): a tape from standard input, its lines to standard output. It reads to the end or to
 // the first octet past 4,096, however short the reads; every rule of the tape is in `tape`.
-use libc::{STDIN_FILENO, STDOUT_FILENO};
+#![tactic(auto)]
+
+use std::io;
+use std::io::{Input, Print};
 use tape::Written;
 
-fn main() {
+fn main(rt: HostRuntime) -> io::Result<()> {
     let mut octets = [0u8; 4097];
-    let n = io::read_full(STDIN_FILENO, &mut octets);
-    let mut page = io::large_buffer();
+    let n = input::read_full(&mut rt.reader(), &mut octets)?;
+    let mut page = [0u8; 65536];
     // The page has room for every output: a refusal is not to be had.
     if let Written::Length(length) = tape::run(&octets[..n], &mut page) {
-        io::write_all(STDOUT_FILENO, &page[..length]);
+        rt.write_all(&page[..length])?;
     }
+    Ok(())
 }

@@ -8,9 +8,12 @@
 // punched.
 // A line that begins with # and a blank line say nothing. What a line says wrong goes to standard error with its number, and then no tape
 // is written. Whether the events make sense together is the tape's to say, so that a tape with a fault can be punched too.
+#![tactic(auto)]
+
 mod words;
 
-use libc::{STDERR_FILENO, STDIN_FILENO, STDOUT_FILENO};
+use std::io;
+use std::io::{Input, Print};
 use words::Punch;
 
 fn front(octets: &[u8], length: usize) -> &[u8] {
@@ -32,26 +35,25 @@ fn punch(text: &[u8], tape: &mut [u8]) -> Punch {
     words::step(p, b'\n', tape)
 }
 
-fn complain(line: u64, wrong: u8) {
-    io::write_all(STDERR_FILENO, b"line ");
-    io::print_decimal(STDERR_FILENO, line);
+fn complain(says: &impl Print, line: u64, wrong: u8) -> io::Result<()> {
+    print!(says; "line {line}")?;
     match wrong {
-        words::NO_EVENT => io::write_all(STDERR_FILENO, b": no such event\n"),
-        words::NO_NUMBER => io::write_all(STDERR_FILENO, b": not a number that fits here\n"),
-        words::TOO_FEW => io::write_all(STDERR_FILENO, b": a word is missing\n"),
-        words::TOO_MANY => io::write_all(STDERR_FILENO, b": a word too many\n"),
-        _ => io::write_all(STDERR_FILENO, b": no room for more octets\n"),
-    };
+        words::NO_EVENT => says.write_all(b": no such event\n"),
+        words::NO_NUMBER => says.write_all(b": not a number that fits here\n"),
+        words::TOO_FEW => says.write_all(b": a word is missing\n"),
+        words::TOO_MANY => says.write_all(b": a word too many\n"),
+        _ => says.write_all(b": no room for more octets\n"),
+    }
 }
 
-fn main() {
-    let mut text = io::large_buffer();
-    let n = io::read_full(STDIN_FILENO, &mut text);
-    let mut tape = io::large_buffer();
+fn main(rt: HostRuntime) -> io::Result<()> {
+    let mut text = [0u8; 65536];
+    let n = input::read_full(&mut rt.reader(), &mut text)?;
+    let mut tape = [0u8; 65536];
     let p = punch(&text[..n], &mut tape);
     if p.wrong == 0 {
-        io::write_all(STDOUT_FILENO, front(&tape, p.length));
+        rt.write_all(front(&tape, p.length))
     } else {
-        complain(p.line, p.wrong);
+        complain(&rt.stderr(), p.line, p.wrong)
     }
 }

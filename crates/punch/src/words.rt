@@ -32,7 +32,7 @@ const OCTETS: u8 = 17;
 
 const COMMENT: u8 = 18;
 
-#[derive(Drop)]
+#[derive(Clone, Copy)]
 pub struct Punch {
     // the line, from 1, and what is wrong in it; 0 is nothing
     pub line: u64,
@@ -252,7 +252,7 @@ fn fewest_words(event: u8) -> u64 {
 
 // A word behind the first.
 fn next_word(mut p: Punch, tape: &mut [u8]) -> Punch {
-    p.words = std::num::wrapping_add_u64(p.words, 1);
+    p.words = p.words.wrapping_add(1);
     let event = p.event;
     if p.words > most_words(event) {
         p.wrong = TOO_MANY;
@@ -300,7 +300,7 @@ fn line(p: Punch) -> Punch {
     if (event != 0) & (event != COMMENT) & (p.words < fewest_words(event)) {
         return wrong(p, TOO_FEW);
     }
-    at_line(std::num::wrapping_add_u64(p.line, 1), 0, p.length)
+    at_line(p.line.wrapping_add(1), 0, p.length)
 }
 
 // A number with one digit more. One that is too large for every place stays.
@@ -324,7 +324,7 @@ fn letter(mut p: Punch, octet: u8) -> Punch {
     let n = octet as u64;
     p.before = p.before % 72057594037927936 * 256 + p.key / 72057594037927936 % 256;
     p.key = p.key % 72057594037927936 * 256 + n;
-    p.letters = std::num::wrapping_add_u64(p.letters, 1);
+    p.letters = p.letters.wrapping_add(1);
     p.number = p.number & (48 <= n) & (n <= 57);
     p.value = with_digit(p.value, n);
     p
