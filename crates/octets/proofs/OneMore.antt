@@ -6,13 +6,14 @@ use mathlib.Core.Path.{◌≡◌, refl, ap}
 use mathlib.Core.List.{List, [], ◌∷◌, ◌++◌}
 use lib.ListN.{length, take, drop, get_or, set}
 
-after_suc : (src out : List ℕ) (n : ℕ) → n < length src → n < length out
-    → set (take n src ++ drop n out) n (get_or src n 0) ≡ take (suc n) src ++ drop (suc n) out
-after_suc [] out n l m = absurd (not-suc-le-zero l)
-after_suc (x ∷ src) [] n l m = absurd (not-suc-le-zero m)
-after_suc (x ∷ src) (y ∷ out) zero l m = refl
-after_suc (x ∷ src) (y ∷ out) (suc n) l m = ap (λ (t : List ℕ). x ∷ t) (after_suc src out n (le_of_suc-le-suc l) (le_of_suc-le-suc m))
+module _ {A : Type 0} where
+  after_suc : (src out : List A) (n : ℕ) {x : A} → n < length src → n < length out → x ≡ get_or src n x
+      → set (take n src ++ drop n out) n x ≡ take (suc n) src ++ drop (suc n) out
+  after_suc [] out n l m e = absurd (not-suc-le-zero l)
+  after_suc (y ∷ src) [] n l m e = absurd (not-suc-le-zero m)
+  after_suc (y ∷ src) (z ∷ out) zero l m e = rw e refl
+  after_suc (y ∷ src) (z ∷ out) (suc n) l m e = ap (λ (t : List A). y ∷ t) (after_suc src out n (le_of_suc-le-suc l) (le_of_suc-le-suc m) e)
 
-pub one_more : (src out : List ℕ) (n : ℕ) → n < length src → n < length out
-    → set (take n src ++ drop n out) n (get_or src n 0) ≡ take (n + 1) src ++ drop (n + 1) out
-one_more src out n l m = rw (add-one n) (after_suc src out n l m)
+  pub one_more : (src out : List A) (n : ℕ) {x : A} → n < length src → n < length out → x ≡ get_or src n x
+      → set (take n src ++ drop n out) n x ≡ take (n + 1) src ++ drop (n + 1) out
+  one_more src out n l m e = rw (add-one n) (after_suc src out n l m e)

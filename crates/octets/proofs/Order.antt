@@ -1,17 +1,13 @@
 -- Checks one after the other: the first list decides where it refuses, and the second where it does not. Assumes nothing.
-use Prim.Native.Nat.{ℕ}
-use native.Mathlib.Omega.{arith}
 use mathlib.Core.Path.{◌≡◌, refl}
-use mathlib.Core.Bool.{Bool, true, false, cond, not, ◌&&◌}
+use mathlib.Core.Bool.{Bool, true, false, cond, not}
 use mathlib.Core.List.{List, [], ◌∷◌, ◌++◌}
-use lib.Dec.{ltb}
-use borrow.Author.Tests.{ltb-true}
-use Rattle.octets.specs.Checks.{Check, ◌⇒◌, Verdict, good, refuse, verdict, ◌then◌, refusal}
-use Rattle.octets.proofs.Bools.{both}
+use Rattle.octets.specs.declared.Refusal.{Refusal}
+use Rattle.octets.specs.Checks.{Check, ◌⇒◌, Verdict, good, refuse, verdict, ◌then◌}
 
 -- a refusal is no good verdict
-pub refused {ℓ} : {X : Type ℓ} {n : ℕ} → refuse n ≡ good → X
-refused e = let z : ◌≡◌ {A = ℕ} 0 1 = cc in absurd (omega arith)
+pub refused {ℓ} : {X : Type ℓ} {n : Refusal} → refuse n ≡ good → X
+refused e = absurd cc
 
 pub verdict_append : (a b : List Check) → verdict (a ++ b) ≡ verdict a then verdict b
 unfolding verdict ◌then◌
@@ -20,29 +16,17 @@ verdict_append ((true ⇒ n) ∷ a) b = refl
 verdict_append ((false ⇒ n) ∷ a) b = verdict_append a b
 
 -- what is made of a verdict, by its first check and then by the others
-pub first_check : {A : Type 0} (f : Verdict → A) (holds : Bool) (n : ℕ) (rest : List Check)
+pub first_check : {A : Type 0} (f : Verdict → A) (holds : Bool) (n : Refusal) (rest : List Check)
     → f (verdict (not holds ⇒ n ∷ rest)) ≡ cond holds (f (verdict rest)) (f (refuse n))
 unfolding verdict
 first_check f true n rest = refl
 first_check f false n rest = refl
 
 -- what a good verdict says of each check
-pub clear : (b : Bool) (n : ℕ) (rest : List Check) → verdict (b ⇒ n ∷ rest) ≡ good → (b ≡ false) × (verdict rest ≡ good)
+pub clear : (b : Bool) (n : Refusal) (rest : List Check) → verdict (b ⇒ n ∷ rest) ≡ good → (b ≡ false) × (verdict rest ≡ good)
 unfolding verdict
 clear true n rest e = refused e
 clear false n rest e = (refl, e)
-
--- checks none of which refuses by 0
-unfoldable pub numbered : List Check → Bool
-numbered [] = true
-numbered ((b ⇒ n) ∷ rest) = ltb 0 n && numbered rest
-
--- where 0 is the number that comes of them, nothing is refused
-pub nothing_refused : (checks : List Check) → numbered checks ≡ true → refusal (verdict checks) ≡ 0 → verdict checks ≡ good
-unfolding verdict numbered
-nothing_refused [] p e = refl
-nothing_refused ((true ⇒ n) ∷ rest) p e = absurd (omega (arith, ltb-true 0 n (both (ltb 0 n) (numbered rest) p).0))
-nothing_refused ((false ⇒ n) ∷ rest) p e = nothing_refused rest (both (ltb 0 n) (numbered rest) p).1 e
 
 -- both parts of a good verdict are good
 pub both_good : (v w : Verdict) → v then w ≡ good → (v ≡ good) × (w ≡ good)

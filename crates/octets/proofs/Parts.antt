@@ -1,27 +1,15 @@
 -- Parts of lent octets, and what a copy into a part of a buffer leaves of the whole buffer. Assumes nothing.
-use Prim.Native.Nat.{ℕ, ◌+◌, ◌-◌, ◌≤◌, ◌<◌}
+use Prim.Native.Nat.{ℕ, ◌+◌, ◌-◌, ◌≤◌}
 use native.Mathlib.Omega.{arith}
-use mathlib.Core.Path.{◌≡◌, sym, ap}
-use mathlib.Core.Bool.{Bool, true, false}
+use mathlib.Core.Path.{◌≡◌, ap}
+use mathlib.Core.Bool.{Bool}
 use mathlib.Core.List.{List, ◌++◌, append-nil, append_assoc}
 use lib.ListN.{length, take, drop, length-append, length-drop, drop_of_length-le}
-use lib.Seq.{take-length, take_all, drop-drop, take-append_seam, drop-append-add}
-use borrow.Author.Tests.{le-leb, lt-leb}
+use lib.Seq.{take_all, drop-drop, take-append_seam, drop-append-add}
+use borrow.Author.Tests.{le-leb}
 use borrow.Rule.Slice.PartMut.{put_mid, mid_of}
 use Rattle.octets.specs.Copy.{put_in, Puts}
 use Rattle.octets.specs.Part.{HandedBack}
-
-module _ (src out : List ℕ) where
-  pub with_room : length src ≤ length out → {later : List ℕ} → later ≡ take (length src) src ++ drop (length src) out
-      → Puts src out true later
-  with_room room e = record { answer = sym (le-leb _ _ room); buffer = simp (le-leb _ _ room, e, take-length) }
-
-  pub without_room : length out < length src → Puts src out false out
-  without_room none = record { answer = sym (lt-leb _ _ none); buffer = simp (lt-leb _ _ none) }
-
--- all of a source, put at the start
-pub all_copied : (src out : List ℕ) {later : List ℕ} → later ≡ take (length src) src ++ drop (length src) out → later ≡ put_in src out
-all_copied src out e = simp (e, take-length)
 
 -- the part from a place to the end, as the logic has it
 pub to_end : (at : ℕ) (l : List ℕ) → take (length l - at) (drop at l) ≡ drop at l
@@ -49,7 +37,7 @@ pub part_length : {at : ℕ × ℕ} {octets : List ℕ} {start : ℕ} {part : Li
 part_length p = ap (λ (l : List ℕ). length l) p.holds
 
 -- a source that fits, put at the start
-pub put_first : {src out : List ℕ} → length src ≤ length out → {r : Bool} {later : List ℕ} → Puts src out r later → later ≡ put_in src out
+pub put_first : {A : Type 0} {src out : List A} → length src ≤ length out → {r : Bool} {later : List A} → Puts src out r later → later ≡ put_in src out
 put_first room p = simp (p.buffer, le-leb _ _ room)
 
 -- where a buffer `w` has `done` at its start, a part put behind that lengthens what was put

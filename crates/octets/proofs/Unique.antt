@@ -4,6 +4,8 @@ use mathlib.Core.Path.{◌≡◌, sym, ◌∙◌}
 use mathlib.Core.Bool.{Bool}
 use mathlib.Core.List.{List}
 use Rattle.octets.specs.Number.{Octet, Word16, Word32, Word48, Word64}
+use Rattle.octets.specs.declared.Refusal.{Refusal}
+use Rattle.octets.specs.Refusals.{Numbers}
 use Rattle.octets.specs.Copy.{Puts}
 use Rattle.octets.specs.Part.{HandedBack}
 
@@ -27,7 +29,10 @@ module _ (o : List ℕ) (at : ℕ) {r r' : ℕ} where
   pub word64_one : Word64 o at r → Word64 o at r' → r ≡ r'
   word64_one = one
 
-pub puts_one : {src out : List ℕ} {r r' : Bool} {l l' : List ℕ} → Puts src out r l → Puts src out r' l' → (r ≡ r') × (l ≡ l')
+pub numbers_one : (refusal : Refusal) {r r' : ℕ} → Numbers refusal r → Numbers refusal r' → r ≡ r'
+numbers_one refusal = one
+
+pub puts_one : {A : Type 0} {src out : List A} {r r' : Bool} {l l' : List A} → Puts src out r l → Puts src out r' l' → (r ≡ r') × (l ≡ l')
 puts_one p q = (one p.answer q.answer, one p.buffer q.buffer)
 
 pub handed_one : {at : ℕ × ℕ} {octets : List ℕ} {start : ℕ} {p p' : List ℕ} {q q' : ℕ × ℕ}

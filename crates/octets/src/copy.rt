@@ -1,27 +1,17 @@
-// A copy into a lent part of a buffer.
-ghost use Rattle.std.specs.Prelude.{◌≡◌, ◌≤◌, length};
-ghost use Rattle.octets.specs.Copy.{put_in, Puts};
+// A copy into a lent part of a buffer, be it of octets or of words.
+ghost use Rattle.octets.specs.Copy.{Puts};
 
-// Copies all of `src` to the start of `out`, and says whether there was room. Without room `out` stays as it is.
-pub fn put(src: &[u8], out: &mut [u8]) -> bool
+// Copies all of `src` to the start of `out`, and says whether there was room. Without room `out` stays as it is. The loop is this room's
+// own, so that the archive for C needs no function from outside for it, as the slice's own copy would.
+pub fn put<T: Copy>(src: &[T], out: &mut [T]) -> bool
     ensures { Puts src.now out.old result out.new }
 {
     if src.len() <= out.len() {
-        copy(src, out);
+        for i in 0..src.len() {
+            out[i] = src[i];
+        }
         true
     } else {
         false
-    }
-}
-
-// The copy itself, octet by octet: so the archive for C needs no function from outside for it, as the slice's own copy would.
-fn copy(src: &[u8], out: &mut [u8])
-    requires { length src.now ≤ length out.old }
-    ensures { out.new ≡ put_in src.now out.old }
-{
-    let mut i: usize = 0;
-    while i < src.len() {
-        out[i] = src[i];
-        i += 1;
     }
 }
