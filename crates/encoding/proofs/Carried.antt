@@ -1,25 +1,26 @@
 -- What the header of a frame tells of the number that it carries: by which type it is announced, and where its six octets stand. Assumes
 -- nothing.
-use Prim.Native.Nat.{ℕ, zero, suc, ◌+◌, ◌-◌, ◌%◌, ◌≤◌, ◌<◌}
+use Prim.Native.Nat.{ℕ, ◌+◌, ◌-◌, ◌%◌, ◌≤◌}
 use native.Mathlib.Omega.{arith}
 use mathlib.Core.Path.{◌≡◌, refl, sym, ◌∙◌, ap}
-use mathlib.Core.Bool.{true, false, false≢true, cond, ◌&&◌}
+use mathlib.Core.Bool.{true, false, false≢true, ◌&&◌}
 use mathlib.Core.List.{List}
 use lib.ListN.{length}
-use lib.Dec.{leb, ltb, eqb}
-use borrow.Author.Tests.{lt-ltb, ne_eqb, eqb-true, leb-true}
+use lib.Dec.{leb, eqb}
+use borrow.Author.Tests.{ne_eqb, eq-eqb, eqb-true, leb-true}
+use Rattle.std.specs.Prelude.{Some, None, Ok, is_some}
 use Rattle.octets.specs.Number.{be16}
 use Rattle.octets.specs.Checks.{good, verdict}
 use Rattle.octets.proofs.Bools.{by_cases, both}
 use Rattle.frame.specs.declared.Header.{Header}
-use Rattle.frame.specs.declared.Reading.TheVariants.{Frame}
+use Rattle.frame.specs.declared.Tag.{Tag}
 use Rattle.frame.specs.Layout.{tag_place, announces, sequenced, announced, number, payload_place, payload_length}
-use Rattle.frame.specs.Reader.{checks, header, reading}
+use Rattle.frame.specs.Reader.{checks, sequence_tag, header, reading}
 use Rattle.frame.proofs.Verdicts.{place_bounds}
 use Rattle.frame.proofs.Accepted.{starts_within, frame_good, payload_tagged, payload_bare, good_before, behind_tag}
 use Rattle.encoding.specs.declared.Encoding.{Encoding}
 use Rattle.encoding.specs.declared.Encoding.TheVariants.{RTag, Hsr, Prp}
-use Rattle.encoding.specs.Encodings.{in_front, place, mark, trails, carries, standing, number_at}
+use Rattle.encoding.specs.Encodings.{in_front, place, mark, trails, carries, standing, number_at, id_in, numbered, sequence}
 
 -- the word that tells an encoding in front announces a sequence tag
 pub mark_announces : (e : Encoding) → in_front e ≡ true → announces (mark e) ≡ true
@@ -53,36 +54,24 @@ unfolding sequenced
 carried_sequenced e o f c =
     let is : be16 o (tag_place o) ≡ mark e = eqb-true _ _ (sym (carries_front e o f) ∙ c) in rw is (mark_announces e f)
 
--- 0 announces none
-none : announces 0 ≡ true → ⊥
-unfolding announces
-none = false≢true
-
--- the announced type tells which
-pub told_by : (o : List ℕ) (m : ℕ) → announces m ≡ true → eqb (announced o) m ≡ eqb (be16 o (tag_place o)) m
-unfolding announced sequenced
-told_by o m k =
-    by_cases (announces (be16 o (tag_place o))) (λ s. rw s)
-    (λ n. rw n (ne_eqb 0 m (λ z. none (rw (← z) at k)) ∙ sym (ne_eqb (be16 o (tag_place o)) m (λ x. false≢true (sym (rw x at n) ∙ k)))))
-
-positive : (n : ℕ) → (n ≡ 0 → ⊥) → 0 < n
-positive zero z = absurd (z refl)
-positive (suc n) z = omega arith
-
 -- of a frame that was read
-module _ (o : List ℕ) {h : Header} (e : Frame h ≡ reading o) where
-  pub is_announced : h.announced ≡ announced o
+module _ (o : List ℕ) {h : Header} (e : Ok h ≡ reading o) where
+  is_tag : h.tag ≡ sequence_tag o
   unfolding header
-  is_announced = ap (λ (x : Header). x.announced) (frame_good o e).1
+  is_tag = ap (λ (x : Header). x.tag) (frame_good o e).1
 
-  -- a type is announced exactly where there is a sequence tag
-  pub is_sequenced : ltb 0 h.announced ≡ sequenced o
-  unfolding announced sequenced
-  is_sequenced =
-      rw is_announced
-      (by_cases (announces (be16 o (tag_place o)))
-      (λ s. rw s (lt-ltb 0 _ (positive (be16 o (tag_place o)) (λ z. none (rw z at s)))))
-      (λ s. rw s))
+  -- its header tells whether it has a sequence tag
+  pub is_sequenced : is_some h.tag ≡ sequenced o
+  unfolding sequence_tag
+  is_sequenced = by_cases (sequenced o) (λ s. rw (is_tag, s)) (λ s. rw (is_tag, s))
+
+  -- and what the tag says
+  pub tag_said : {t : Tag} → h.tag ≡ Some t → (t.kind ≡ be16 o (tag_place o)) × (t.number ≡ be16 o (tag_place o + 4))
+  unfolding sequence_tag announced number
+  tag_said {t} i =
+      let s : sequenced o ≡ true = sym is_sequenced ∙ rw i refl in
+      let is = rw s at is_tag in
+      (cc, cc)
 
   pub starts : h.payload ≡ payload_place o
   unfolding header
@@ -117,28 +106,47 @@ pub number_within : (e : Encoding) → number_at e ≤ 4
 unfolding number_at
 number_within e = by_cases (in_front e) (λ f. rw f (omega arith)) (λ f. rw f (omega arith))
 
--- the number is the tag's, which was read, or leads the trailer
-pub number_stands : (e : Encoding) (o : List ℕ) {h : Header} → Frame h ≡ reading o → carries e o ≡ true
-    → cond (in_front e) h.number (be16 o (standing e o)) ≡ be16 o (standing e o + number_at e)
-unfolding standing place number_at header number
-number_stands e o r c =
-    by_cases (in_front e)
-    (λ f. rw f (ap (λ (x : Header). x.number) (frame_good o r).1 ∙ rw (carried_sequenced e o f c)))
-    (λ f. let first : length o - 6 + 0 ≡ length o - 6 = omega arith in rw (f, first))
-
 -- so where its payload starts tells where the six octets stand
-pub stands_at : (e : Encoding) (o : List ℕ) {h : Header} → Frame h ≡ reading o → carries e o ≡ true
+pub stands_at : (e : Encoding) (o : List ℕ) {h : Header} → Ok h ≡ reading o → carries e o ≡ true
     → place e (h.payload - 8) (length o - 6) ≡ standing e o
 unfolding place standing
 stands_at e o r c =
     by_cases (in_front e) (λ f. rw f (omega (arith, starts o r, payload_tagged o (carried_sequenced e o f c)))) (λ f. rw f)
 
--- where both places are so low, so is the one that an encoding has
-pub place_below : (e : Encoding) {front back most : ℕ} → front ≤ most → back ≤ most → place e front back ≤ most
-unfolding place
-place_below e f b = by_cases (in_front e) (λ t. rw t f) (λ t. rw t b)
+-- what a frame carries, by the tag that was read
+module _ (e : Encoding) (o : List ℕ) {h : Header} (r : Ok h ≡ reading o) (f : in_front e ≡ true) where
+  pub no_tag : h.tag ≡ None → None ≡ sequence e o
+  unfolding sequence
+  no_tag n =
+      by_cases (carries e o) (λ c. absurd (false≢true (rw n at (is_sequenced o r) ∙ carried_sequenced e o f c)))
+      (λ c. rw c)
+
+  pub another_tag : {t : Tag} → h.tag ≡ Some t → (t.kind ≡ mark e → ⊥) → None ≡ sequence e o
+  unfolding sequence
+  another_tag i n = rw (carries_front e o f, ne_eqb _ _ (rw (tag_said o r i).0 at n))
+
+  pub its_tag : {t : Tag} → h.tag ≡ Some t → t.kind ≡ mark e → numbered t.number (id_in e (be16 o (h.payload - 6))) ≡ sequence e o
+  unfolding sequence standing place number_at
+  its_tag i m =
+      let said = tag_said o r i in
+      let c : carries e o ≡ true = carries_front e o f ∙ eq-eqb _ _ (sym said.0 ∙ m) in
+      let there : h.payload - 6 ≡ tag_place o + 2 = omega (arith, starts o r, payload_tagged o (carried_sequenced e o f c)) in
+      rw (c, f, there, said.1) refl
+
+-- and by what stands at its end
+module _ (e : Encoding) (o : List ℕ) (f : in_front e ≡ false) where
+  pub no_trailer : trails o (mark e) (payload_length o) ≡ false → None ≡ sequence e o
+  unfolding sequence
+  no_trailer t = rw (carries_back e o f, t)
+
+  pub its_trailer : trails o (mark e) (payload_length o) ≡ true
+      → numbered (be16 o (length o - 6)) (id_in e (be16 o (length o - 6 + 2))) ≡ sequence e o
+  unfolding sequence standing place number_at
+  its_trailer t =
+      let first : length o - 6 + 0 ≡ length o - 6 = omega arith in
+      rw (carries_back e o f, t, f, first) refl
 
 -- what the proofs of reading rest on
-pub ruleset of_carries = (starts_within, mark_announces, carries_front, carries_back, told_by, is_announced, payload_octets)
+pub ruleset of_tag = (starts_within, far, no_tag, another_tag, its_tag)
 
-pub ruleset of_sequence = (starts_within, far, number_stands, stands_at, standing_within)
+pub ruleset of_trailer = (starts_within, far, payload_octets, no_trailer, its_trailer)

@@ -3,6 +3,8 @@ use Prim.Native.Nat.{ℕ}
 use mathlib.Core.Path.{◌≡◌}
 use mathlib.Core.Bool.{Bool}
 use mathlib.Core.List.{List}
+use Rattle.std.specs.Prelude.{Result}
+use Rattle.octets.specs.declared.Refusal.{Refusal}
 use Rattle.octets.proofs.Unique.{one}
 use Rattle.encoding.specs.declared.Encoding.{Encoding}
 use Rattle.encoding.specs.declared.Packet.{Packet}
@@ -22,5 +24,5 @@ module _ (e : Encoding) where
   pub makes_one : (number id size : ℕ) {r r' : List ℕ} → Makes e number id size r → Makes e number id size r' → r ≡ r'
   makes_one number id size = one
 
-  pub reads_in_one : (o : List ℕ) {r r' : Packet} → ReadsIn e o r → ReadsIn e o r' → r ≡ r'
+  pub reads_in_one : (o : List ℕ) {r r' : Result Packet Refusal} → ReadsIn e o r → ReadsIn e o r' → r ≡ r'
   reads_in_one o = one

@@ -1,6 +1,6 @@
 -- The three encodings of a number (document 02, CR 5; 002 clauses 7.8 to 7.10): of each, where its six octets stand, what they are for a
 -- number, an id and a size, and when octets carry a number in it. All else is said over the encoding. Assumes nothing.
-use Rattle.std.specs.Prelude.{ℕ, ◌+◌, ◌-◌, ◌*◌, ◌/◌, ◌%◌, ◌≡◌, Bool, true, false, cond, ◌&&◌, List, [], ◌∷◌, length, leb, eqb}
+use Rattle.std.specs.Prelude.{ℕ, ◌+◌, ◌-◌, ◌*◌, ◌/◌, ◌%◌, ◌≡◌, Bool, true, false, cond, ◌&&◌, List, [], ◌∷◌, length, leb, eqb, Option, Some, None}
 use Rattle.octets.specs.Number.{be16}
 use Rattle.frame.specs.Layout.{R_TAG, HSR_TAG, tag_place, tag_length, payload_length}
 use Rattle.encoding.specs.declared.Encoding.{Encoding}
@@ -72,14 +72,23 @@ id_in Hsr word = word / 4096
 id_in Prp word = word / 4096
 
 -- a packet with a number and an id, and "a packet without a number"
-abbrev pub numbered : (number id : ℕ) → Sequence
-numbered number id = record { numbered = true; number = number; path = id }
+abbrev pub numbered : (number id : ℕ) → Option Sequence
+numbered number id = Some (record { number = number; path = id })
 
-abbrev pub unnumbered : Sequence
-unnumbered = record { numbered = false; number = 0; path = 0 }
+abbrev pub unnumbered : Option Sequence
+unnumbered = None
+
+-- the number and the id that a packet has; 0 without a number
+abbrev pub number_of : Option Sequence → ℕ
+number_of None = 0
+number_of (Some s) = s.number
+
+abbrev pub path_of : Option Sequence → ℕ
+path_of None = 0
+path_of (Some s) = s.path
 
 -- what octets carry in an encoding
-unfoldable pub sequence : Encoding → List ℕ → Sequence
+unfoldable pub sequence : Encoding → List ℕ → Option Sequence
 sequence e o =
     cond (carries e o) (numbered (be16 o (standing e o + number_at e)) (id_in e (be16 o (standing e o + 2)))) unnumbered
 

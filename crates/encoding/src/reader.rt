@@ -1,60 +1,59 @@
 // A frame read in the encoding of its stream: what it says whatever the stream, and the number that is the stream's own.
-ghost use Rattle.std.specs.Prelude.{◌≡◌, ◌≤◌, cond, length};
-ghost use Rattle.octets.specs.Number.{be16};
+ghost use Rattle.std.specs.Prelude.{◌≡◌, ◌≤◌, true, false, length, Ok};
 ghost use Rattle.frame.specs.Reader.{reading};
-ghost use Rattle.encoding.specs.Encodings.{in_front, id_in, trails, carries, sequence};
+ghost use Rattle.encoding.specs.Encodings.{in_front, id_in, trails, sequence};
 ghost use Rattle.encoding.specs.Reader.{ReadsIn};
 
-use crate::six::{in_front, mark, place};
+use crate::six::{in_front, mark};
 use crate::{Encoding, Packet, Sequence};
-use frame::{Header, Reading};
+use frame::Header;
+use octets::Refusal;
 
 // Everything about a frame, with the number that it carries in the encoding of its stream.
 #[tactic(auto, unfolding(crate::specs::Reader::reading_in))]
-pub fn read(frame: &[u8], encoding: Encoding) -> Packet
+pub fn read(frame: &[u8], encoding: Encoding) -> Result<Packet, Refusal>
     ensures { ReadsIn encoding frame.now result }
 {
-    match frame::read(frame) {
-        Reading::Frame(h) => {
-            let s = sequence(frame, encoding, h);
-            Packet::Frame(h, s)
-        }
-        Reading::Refused(no) => Packet::Refused(no),
-    }
+    let header = frame::read(frame)?;
+    let sequence = if in_front(encoding) {
+        in_tag(frame, encoding, header)
+    } else {
+        in_trailer(frame, encoding, header)
+    };
+    Ok(Packet { header, sequence })
 }
 
-// What a frame that was read carries.
-#[tactic(auto, using(crate::proofs::Carried::of_sequence), unfolding(crate::specs::Encodings::sequence))]
-fn sequence(frame: &[u8], encoding: Encoding, h: Header) -> Sequence
-    requires { Reading.Frame h ≡ reading frame.now }
+// What a frame that was read carries in its sequence tag.
+#[tactic(auto, using(crate::proofs::Carried::of_tag))]
+fn in_tag(frame: &[u8], encoding: Encoding, h: Header) -> Option<Sequence>
+    requires { (Ok h ≡ reading frame.now) × (in_front encoding ≡ true) }
     ensures { result ≡ sequence encoding frame.now }
 {
-    if !carries(frame, encoding, h) {
-        return Sequence {
-            numbered: false,
-            number: 0,
-            path: 0,
-        };
+    let tag = h.tag?;
+    if tag.kind != mark(encoding) {
+        return None;
     }
-    let at = place(encoding, h.payload - 8, frame.len() - 6);
-    let word = octets::word16(frame, at + 2);
-    Sequence {
-        numbered: true,
-        number: number_at(frame, encoding, at, h.number),
+    let word = octets::word16(frame, h.payload - 6);
+    Some(Sequence {
+        number: tag.number,
         path: id_in(encoding, word),
-    }
+    })
 }
 
-// Whether it carries a number.
-#[tactic(auto, using(crate::proofs::Carried::of_carries))]
-fn carries(frame: &[u8], encoding: Encoding, h: Header) -> bool
-    requires { Reading.Frame h ≡ reading frame.now }
-    ensures { result ≡ carries encoding frame.now }
+// What it carries at its end.
+#[tactic(auto, using(crate::proofs::Carried::of_trailer))]
+fn in_trailer(frame: &[u8], encoding: Encoding, h: Header) -> Option<Sequence>
+    requires { (Ok h ≡ reading frame.now) × (in_front encoding ≡ false) }
+    ensures { result ≡ sequence encoding frame.now }
 {
-    if in_front(encoding) {
-        return h.announced == mark(encoding);
+    if !trails(frame, mark(encoding), frame.len() - h.payload) {
+        return None;
     }
-    trails(frame, mark(encoding), frame.len() - h.payload)
+    let at = frame.len() - 6;
+    Some(Sequence {
+        number: octets::word16(frame, at),
+        path: id_in(encoding, octets::word16(frame, at + 2)),
+    })
 }
 
 // Whether the last six octets of a payload of so many are a trailer with that suffix.
@@ -72,17 +71,6 @@ fn trails(frame: &[u8], suffix: u16, payload: usize) -> bool
     (octets::word16(frame, frame.len() - 4) % 4096) as usize == payload
 }
 
-// The number of the six octets at a place: that of the tag, which is read, or the first two of the trailer.
-fn number_at(frame: &[u8], encoding: Encoding, at: usize, tag: u16) -> u16
-    ensures { result ≡ cond (in_front encoding) tag (be16 frame.now at) }
-{
-    if in_front(encoding) {
-        tag
-    } else {
-        octets::word16(frame, at)
-    }
-}
-
 // The path or LAN id, from the word that it shares with the size.
 #[tactic(auto, unfolding(crate::specs::Encodings::id_in))]
 fn id_in(encoding: Encoding, word: u16) -> u8
@@ -90,7 +78,6 @@ fn id_in(encoding: Encoding, word: u16) -> u8
 {
     match encoding {
         Encoding::RTag => 0,
-        Encoding::Hsr => (word / 4096) as u8,
-        Encoding::Prp => (word / 4096) as u8,
+        Encoding::Hsr | Encoding::Prp => (word / 4096) as u8,
     }
 }

@@ -10,8 +10,7 @@ pub fn in_front(encoding: Encoding) -> bool
     ensures { InFront encoding result }
 {
     match encoding {
-        Encoding::RTag => true,
-        Encoding::Hsr => true,
+        Encoding::RTag | Encoding::Hsr => true,
         Encoding::Prp => false,
     }
 }
@@ -29,14 +28,9 @@ pub fn place(encoding: Encoding, front: usize, back: usize) -> usize
 pub fn octets_of(encoding: Encoding, number: u16, path: u8, size: u16) -> [u8; 6]
     ensures { Makes encoding number path size result }
 {
-    let m = mark(encoding);
-    let w = id_word(encoding, path, size);
-    let m0 = (m / 256) as u8;
-    let m1 = (m % 256) as u8;
-    let w0 = (w / 256) as u8;
-    let w1 = (w % 256) as u8;
-    let n0 = (number / 256) as u8;
-    let n1 = (number % 256) as u8;
+    let [m0, m1] = mark(encoding).to_be_bytes();
+    let [w0, w1] = id_word(encoding, path, size).to_be_bytes();
+    let [n0, n1] = number.to_be_bytes();
     if in_front(encoding) {
         [m0, m1, w0, w1, n0, n1]
     } else {
@@ -63,8 +57,7 @@ fn id_word(encoding: Encoding, path: u8, size: u16) -> u16
 {
     match encoding {
         Encoding::RTag => 0,
-        Encoding::Hsr => id_and_size(path, size),
-        Encoding::Prp => id_and_size(path, size),
+        Encoding::Hsr | Encoding::Prp => id_and_size(path, size),
     }
 }
 

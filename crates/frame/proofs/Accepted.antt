@@ -5,42 +5,43 @@ use mathlib.Core.Bool.{true, false, cond}
 use mathlib.Core.List.{List, [], ◌++◌}
 use lib.ListN.{length}
 use borrow.Author.Tests.{ltb-false, eqb-false}
+use Rattle.std.specs.Prelude.{Ok, Err}
 use Rattle.octets.specs.Number.{be16}
-use Rattle.octets.specs.Checks.{Check, Verdict, good, refuse, verdict, ◌then◌}
+use Rattle.octets.specs.declared.Refusal.{Refusal}
+use Rattle.octets.specs.Checks.{Check, Verdict, good, refuse, verdict, answered, ◌then◌}
 use Rattle.octets.proofs.Bools.{by_cases, neither}
 use Rattle.octets.proofs.Order.{verdict_append, clear, both_good}
 use Rattle.frame.specs.declared.Header.{Header}
-use Rattle.frame.specs.declared.Reading.TheVariants.{Frame, Refused}
 use Rattle.frame.specs.Layout.{C_TAG, tagged, vlan, tag_place, announces, sequenced, payload_place, kind_place}
-use Rattle.frame.specs.Reader.{Before, length_checks, ctag_checks, sequence_checks, checks, header, answered, reading}
+use Rattle.frame.specs.Reader.{Before, length_checks, ctag_checks, sequence_checks, checks, ctag, header, reading}
 
 -- the answer tells the verdict: a header is given exactly of a good frame, and it is the frame's
-pub frame_good : (o : List ℕ) {h : Header} → Frame h ≡ reading o → (verdict (checks o) ≡ good) × (h ≡ header o)
+pub frame_good : (o : List ℕ) {h : Header} → Ok h ≡ reading o → (verdict (checks o) ≡ good) × (h ≡ header o)
 unfolding reading
 frame_good o {h} e = by_verdict (verdict (checks o)) e
   where
-    by_verdict : (v : Verdict) → Frame h ≡ answered v (header o) → (v ≡ good) × (h ≡ header o)
+    by_verdict : (v : Verdict) → Ok h ≡ answered v (header o) → (v ≡ good) × (h ≡ header o)
     by_verdict good e = (refl, cc)
     by_verdict (refuse n) e = (cc, cc)
 
-pub good_frame : (o : List ℕ) → verdict (checks o) ≡ good → Frame (header o) ≡ reading o
+pub good_frame : (o : List ℕ) → verdict (checks o) ≡ good → Ok (header o) ≡ reading o
 unfolding reading
 good_frame o e = simp e
 
-pub refused_by : (o : List ℕ) {n : ℕ} → Refused n ≡ reading o → verdict (checks o) ≡ refuse n
+pub refused_by : (o : List ℕ) {n : Refusal} → Err n ≡ reading o → verdict (checks o) ≡ refuse n
 unfolding reading
 refused_by o {n} e = by_verdict (verdict (checks o)) e
   where
-    by_verdict : (v : Verdict) → Refused n ≡ answered v (header o) → v ≡ refuse n
+    by_verdict : (v : Verdict) → Err n ≡ answered v (header o) → v ≡ refuse n
     by_verdict good e = cc
     by_verdict (refuse m) e = cc
 
 -- checks after those of reading: a refusal of reading decides; where reading accepts, the others do
-pub read_refused : (o : List ℕ) (more : List Check) {k : ℕ} → Refused k ≡ reading o → verdict (checks o ++ more) ≡ refuse k
+pub read_refused : (o : List ℕ) (more : List Check) {k : Refusal} → Err k ≡ reading o → verdict (checks o ++ more) ≡ refuse k
 unfolding ◌then◌
 read_refused o more e = simp (verdict_append, refused_by o e)
 
-pub read_good : (o : List ℕ) (more : List Check) {h : Header} → Frame h ≡ reading o → verdict (checks o ++ more) ≡ verdict more
+pub read_good : (o : List ℕ) (more : List Check) {h : Header} → Ok h ≡ reading o → verdict (checks o ++ more) ≡ verdict more
 unfolding ◌then◌
 read_good o more e = simp (verdict_append, (frame_good o e).0)
 
@@ -88,8 +89,8 @@ module _ (o : List ℕ) (ok : verdict (checks o) ≡ good) where
       (ltb-false _ _ g.0, eqb-false _ _ e.0, e.1)
 
   -- so only the checks at a sequence tag were left when its place was reached
-  pub good_before : Before o (tag_place o) (tagged o) (vlan o)
-  good_before = record { place = refl; is_tagged = refl; is_vlan = refl; left = ok ∙ sym tags_good.1 }
+  pub good_before : Before o (tag_place o) (ctag o)
+  good_before = record { place = refl; is_vlan = refl; left = ok ∙ sym tags_good.1 }
 
   -- what stands at the sequence tag's place is no C-TAG
   pub no_ctag : be16 o (tag_place o) ≡ C_TAG → ⊥
@@ -104,6 +105,6 @@ module _ (o : List ℕ) (ok : verdict (checks o) ≡ good) where
       (λ n. rw (payload_bare o n) (by_cases (tagged o) (λ t. rw t (behind_ctag t).0) (λ t. rw t least)))
 
 -- the same of the header that was read
-pub starts_within : (o : List ℕ) {h : Header} → Frame h ≡ reading o → h.payload ≤ length o
+pub starts_within : (o : List ℕ) {h : Header} → Ok h ≡ reading o → h.payload ≤ length o
 unfolding header
 starts_within o e = let g = frame_good o e in rw g.1 (payload_within o g.0)

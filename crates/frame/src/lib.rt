@@ -1,6 +1,6 @@
 // A lent frame: read in one pass, and its payload handed back as a part of it.
 //
-// Whatever octets come in, each call answers or refuses by document 01's number.
+// Whatever octets come in, each call answers or refuses, as document 01 has it.
 #![tactic(auto)]
 
 mod part;
@@ -10,24 +10,22 @@ pub use part::payload;
 pub use reader::read;
 
 // What a frame says before its payload, whatever the encoding of its stream. An address is its six octets as one big-endian number.
-#[derive(Clone, Copy)]
+#[derive(Clone, Copy, Debug, PartialEq, Eq)]
 pub struct Header {
     pub destination: u64,
     pub source: u64,
-    // It has a C-TAG; `vlan` is 0 without one.
-    pub tagged: bool,
-    pub vlan: u16,
-    // The type that announces its sequence tag, F1C1 or 892F, and the number in it; 0 without one.
-    pub announced: u16,
-    pub number: u16,
+    // The VLAN id of its C-TAG.
+    pub vlan: Option<u16>,
+    pub tag: Option<Tag>,
     // The last type.
     pub kind: u16,
     // Where the payload starts.
     pub payload: usize,
 }
 
-#[derive(Drop)]
-pub enum Reading {
-    Frame(Header),
-    Refused(u8),
+// A sequence tag: the type that announces it, F1C1 or 892F, and the number in it.
+#[derive(Clone, Copy, Debug, PartialEq, Eq)]
+pub struct Tag {
+    pub kind: u16,
+    pub number: u16,
 }

@@ -1,59 +1,64 @@
 -- From a promise of the room to the promise of its call for C: the answer as a number, and what is lent afterwards. Assumes nothing.
-use Prim.Native.Nat.{ℕ, ◌≤◌, ◌<◌}
-use native.Mathlib.Omega.{arith}
-use mathlib.Core.Path.{◌≡◌, sym, ◌∙◌}
-use mathlib.Core.Bool.{Bool}
+use Prim.Native.Nat.{ℕ}
+use mathlib.Core.Path.{◌≡◌, refl, ◌∙◌}
+use mathlib.Core.Bool.{true, false≢true, cond}
 use mathlib.Core.List.{List, []}
-use lib.ListN.{length}
-use lib.Seq.{length-take-le}
-use borrow.Author.Tests.{le-leb, lt-leb}
-use Rattle.octets.specs.Copy.{fits, output_by, Puts}
-use Rattle.octets.specs.Checks.{verdict, refusal}
+use Rattle.std.specs.Prelude.{Option, Some, None, Result, Ok, Err, is_ok, unwrap_or, take}
+use Rattle.octets.specs.declared.Refusal.{Refusal}
+use Rattle.octets.specs.declared.Refusal.TheVariants.{OutputShort}
+use Rattle.octets.specs.Copy.{fits}
+use Rattle.octets.specs.Checks.{Verdict, verdict, good, refuse}
+use Rattle.octets.proofs.Bools.{one_if}
 use Rattle.octets.proofs.Order.{first_check}
-use Rattle.frame.specs.declared.Header.{Header}
 use Rattle.frame.specs.Reader.{header}
 use Rattle.frame.proofs.Accepted.{frame_good, read_refused, read_good}
 use Rattle.encoding.specs.declared.Encoding.{Encoding}
 use Rattle.encoding.specs.declared.Sequence.{Sequence}
-use Rattle.encoding.specs.declared.Packet.TheVariants.{Frame, Refused}
-use Rattle.encoding.specs.Encodings.{sequence}
+use Rattle.encoding.specs.declared.Packet.{Packet}
+use Rattle.encoding.specs.Encodings.{number_of, path_of, sequence}
 use Rattle.encoding.specs.Reader.{reading_in}
 use Rattle.encoding.proofs.Answered.{header_of, refusal_of}
-use Rattle.frame_c.specs.Frames.{header_words, written, record_checks, Fills, ReadsTo}
+use Rattle.frame_c.specs.Frames.{header_words, written, record_checks}
 
--- words of a header that a record has room for
-module _ (h : Header) (s : Sequence) (n : ℕ) (out : List ℕ) (few : n ≤ 9) where
-  long : length (written n h s) ≡ n
-  unfolding written header_words
-  long = length-take-le n (header_words h s) few
+-- what counts as the number and the id without one
+pub number_told : (s : Option Sequence) → (unwrap_or s (record { number = 0; path = 0 })).number ≡ number_of s
+number_told None = refl
+number_told (Some s) = refl
 
-  pub room_told : n ≤ length out → {filled later : List ℕ} {fitted : Bool} → Puts filled out fitted later → filled ≡ written n h s
-      → Fills h s n out 0 later
-  room_told room p e =
-      let fit = le-leb (length (written n h s)) (length out) (omega (arith, long)) in
-      record { answer = simp fit; words = p.buffer ∙ rw e }
+pub path_told : (s : Option Sequence) → (unwrap_or s (record { number = 0; path = 0 })).path ≡ path_of s
+path_told None = refl
+path_told (Some s) = refl
 
-  -- and that it has none for
-  pub no_room_told : length out < n → Fills h s n out 8 out
-  no_room_told none =
-      let fit = lt-leb (length (written n h s)) (length out) (omega (arith, long)) in record { answer = simp fit; words = simp fit }
+-- the verdict as the code comes to it, by the answer of reading, and the words
+abbrev pub words_by : Result Packet Refusal → ℕ → List ℕ
+words_by (Ok p) n = take n (header_words p.header p.sequence)
+words_by (Err k) n = []
 
-module _ (e : Encoding) (n : ℕ) (o out : List ℕ) where
-  -- a frame that reading accepts
-  pub frame_told : {h : Header} {s : Sequence} {r : ℕ} {later : List ℕ} → Frame h s ≡ reading_in e o → Fills h s n out r later
-      → ReadsTo e n o out r later
-  unfolding record_checks verdict
-  frame_told q p =
-      let told = header_of e o q in
-      let is = (frame_good o told.0).1 in
-      let words = written n (header o) (sequence e o) in
-      let fit = fits words out in
-      record {
-        answer = p.answer ∙ rw (is, told.1, read_good o _ told.0) (sym (first_check refusal fit 8 []));
-        words = p.words ∙ rw (is, told.1, read_good o _ told.0) (sym (first_check (λ v. output_by v words out) fit 8 []));
-      }
+abbrev pub record_by : Result Packet Refusal → ℕ → List ℕ → Verdict
+record_by (Ok p) n out = cond (fits (words_by (Ok p) n) out) good (refuse OutputShort)
+record_by (Err k) n out = refuse k
 
-  -- a reading that is refused
-  pub refusal_told : {k : ℕ} → Refused k ≡ reading_in e o → ReadsTo e n o out k out
-  unfolding record_checks
-  refusal_told q = let r = refusal_of e o q in record { answer = rw (read_refused o _ r); words = rw (read_refused o _ r) }
+module _ (e : Encoding) (n : ℕ) (o : List ℕ) where
+  words_told_by : (r : Result Packet Refusal) → r ≡ reading_in e o → is_ok r ≡ true → written n (header o) (sequence e o) ≡ words_by r n
+  unfolding written
+  words_told_by (Ok p) q t = let told = header_of e o q in rw ((frame_good o told.0).1, told.1) refl
+  words_told_by (Err k) q t = absurd (false≢true t)
+
+  pub words_told : is_ok (reading_in e o) ≡ true → written n (header o) (sequence e o) ≡ words_by (reading_in e o) n
+  words_told = words_told_by (reading_in e o) refl
+
+  module _ (out : List ℕ) where
+    decided_by : (r : Result Packet Refusal) → r ≡ reading_in e o → verdict (record_checks e n o out) ≡ record_by r n out
+    unfolding record_checks verdict
+    decided_by (Ok p) q =
+        read_good o _ (header_of e o q).0
+        ∙ rw (words_told_by (Ok p) q refl) (first_check (λ v. v) (fits (words_by (Ok p) n) out) OutputShort [])
+    decided_by (Err k) q = read_refused o _ (refusal_of e o q)
+
+    pub decided : verdict (record_checks e n o out) ≡ record_by (reading_in e o) n out
+    decided = decided_by (reading_in e o) refl
+
+-- what the proofs of the inner functions rest on
+pub ruleset of_words_of = (number_told, path_told, one_if)
+
+pub ruleset of_fill = (words_told, decided)

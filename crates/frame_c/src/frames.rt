@@ -1,11 +1,11 @@
 // "Reading a frame" (document 01; document 02, CR 5) for C: the header as a record of words, a payload as its length. The encoding is in
 // the name of the call, so that no other can be handed in.
-ghost use Rattle.std.specs.Prelude.{◌≤◌};
+ghost use Rattle.std.specs.Prelude.{◌≡◌, ◌≤◌};
 ghost use Rattle.encoding.specs.declared.Encoding.TheVariants.{RTag, Hsr, Prp};
-ghost use Rattle.frame_c.specs.Frames.{Fills, ReadsTo, PayloadOctets};
+ghost use Rattle.frame_c.specs.Frames.{header_words, Fills, ReadsTo, PayloadOctets};
 
-use encoding::{Encoding, Packet, Sequence};
-use frame::Header;
+use encoding::{Encoding, Packet};
+use octets::Refusal;
 
 // The header of a frame of an R-TAG stream, in eight words.
 #[unsafe(no_mangle)]
@@ -36,32 +36,48 @@ fn read_to(frame: &[u8], encoding: Encoding, n: usize, header: &mut [u64]) -> u8
     requires { n ≤ 9 }
     ensures { ReadsTo encoding n frame.now header.old result header.new }
 {
-    match encoding::read(frame, encoding) {
-        Packet::Frame(h, s) => fill(h, s, n, header),
-        Packet::Refused(no) => no,
+    words::code(fill(frame, encoding, n, header))
+}
+
+// The same with the room's answer.
+#[tactic(auto, using(crate::proofs::Told::of_fill))]
+fn fill(frame: &[u8], encoding: Encoding, n: usize, header: &mut [u64]) -> Result<(), Refusal>
+    requires { n ≤ 9 }
+    ensures { Fills encoding n frame.now header.old result header.new }
+{
+    let packet = encoding::read(frame, encoding)?;
+    if octets::put(&words_of(packet)[..n], header) {
+        Ok(())
+    } else {
+        Err(Refusal::OutputShort)
     }
 }
 
-fn fill(h: Header, s: Sequence, n: usize, header: &mut [u64]) -> u8
-    requires { n ≤ 9 }
-    ensures { Fills h s n header.old result header.new }
+// What a frame reads as, in words.
+#[tactic(auto, using(crate::proofs::Told::of_words_of), unfolding(crate::specs::Frames::header_words))]
+fn words_of(packet: Packet) -> [u64; 9]
+    ensures { result ≡ header_words packet.header packet.sequence }
 {
-    if header.len() < n {
-        return 8;
-    }
-    let filled = [
+    let h = packet.header;
+    let (tagged, vlan) = match h.vlan {
+        Some(vlan) => (1, vlan as u64),
+        None => (0, 0),
+    };
+    let (numbered, number, path) = match packet.sequence {
+        Some(s) => (1, s.number as u64, s.path as u64),
+        None => (0, 0, 0),
+    };
+    [
         h.destination,
         h.source,
-        h.tagged as u64,
-        h.vlan as u64,
-        s.numbered as u64,
-        s.number as u64,
+        tagged,
+        vlan,
+        numbered,
+        number,
         h.kind as u64,
         h.payload as u64,
-        s.path as u64,
-    ];
-    words::put(&filled[..n], header);
-    0
+        path,
+    ]
 }
 
 // How many octets the payload has: the last ones of the frame, a trailer among them. 0 for a frame that `ahz_read` refuses.

@@ -1,10 +1,10 @@
 -- An IPv4 header at the start of a packet `p` (RFC 791; RFC 2474 for the DSCP): where things stand in it, and what CR 1 calls bad and cut.
 -- Octets past the end count as 0. Assumes nothing.
-use Rattle.std.specs.Prelude.{ℕ, ◌*◌, ◌/◌, ◌%◌, ◌≡◌, Bool, cond, not, ◌||◌, List, length, get_or, ltb, eqb}
+use Rattle.std.specs.Prelude.{ℕ, ◌*◌, ◌/◌, ◌%◌, ◌≡◌, Bool, cond, not, ◌||◌, List, length, get_or, ltb, eqb, Result, Ok, Err}
 use Rattle.octets.specs.Number.{be16, be32}
 use Rattle.ipv4.specs.declared.Header.{Header}
-use Rattle.ipv4.specs.declared.Reading.{Reading}
-use Rattle.ipv4.specs.declared.Reading.TheVariants.{Whole, Bad, Cut}
+use Rattle.ipv4.specs.declared.Unread.{Unread}
+use Rattle.ipv4.specs.declared.Unread.TheVariants.{Bad, Cut}
 
 -- the high four bits of the first octet
 unfoldable pub version : List ℕ → ℕ
@@ -46,10 +46,10 @@ header p =
       ports = header_length p;
     }
 
--- what a packet reads as
-unfoldable pub reading : List ℕ → Reading
-reading p = cond (bad p) Bad (cond (cut p) Cut (Whole (header p)))
+-- what a packet reads as: its header, or why it has none; a bad one is bad before it is cut
+unfoldable pub reading : List ℕ → Result Header Unread
+reading p = cond (bad p) (Err Bad) (cond (cut p) (Err Cut) (Ok (header p)))
 
 -- the promise of `read`
-abbrev pub Reads : List ℕ → Reading → Type 0
+abbrev pub Reads : List ℕ → Result Header Unread → Type 0
 Reads p r = r ≡ reading p

@@ -20,9 +20,9 @@ pub struct Header {
     pub ports: usize,
 }
 
-#[derive(Clone, Copy)]
-pub enum Reading {
-    Whole(Header),
+// Why there is no header to read.
+#[derive(Clone, Copy, Debug, PartialEq, Eq)]
+pub enum Unread {
     Bad,
     Cut,
 }

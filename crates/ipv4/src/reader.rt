@@ -2,31 +2,31 @@
 ghost use Rattle.std.specs.Prelude.{◌≡◌};
 ghost use Rattle.ipv4.specs.Reader.{dscp, later, Reads};
 
-use crate::{Header, Reading};
+use crate::{Header, Unread};
 
 // In octets: the shortest header, of five words.
 const SHORTEST: usize = 20;
 
 // The header that octets begin with. A bad one is bad before it is cut.
 #[tactic(auto, using(crate::proofs::Verdicts::other_version, crate::proofs::Verdicts::under_five_words, crate::proofs::Verdicts::shorter, crate::proofs::Verdicts::whole), unfolding(crate::specs::Reader::header, crate::specs::Reader::header_length, crate::specs::Reader::words))]
-pub fn read(packet: &[u8]) -> Reading
+pub fn read(packet: &[u8]) -> Result<Header, Unread>
     ensures { Reads packet.now result }
 {
     let first = octets::octet(packet, 0);
     let length = (first % 16) as usize * 4;
     if first / 16 != 4 {
-        return Reading::Bad;
+        return Err(Unread::Bad);
     }
     if length < SHORTEST {
-        return Reading::Bad;
+        return Err(Unread::Bad);
     }
     if packet.len() < SHORTEST {
-        return Reading::Cut; // whatever its own length: so the compiler knows that all below is there
+        return Err(Unread::Cut); // whatever its own length: so the compiler knows that all below is there
     }
     if packet.len() < length {
-        return Reading::Cut;
+        return Err(Unread::Cut);
     }
-    Reading::Whole(Header {
+    Ok(Header {
         source: octets::word32(packet, 12),
         destination: octets::word32(packet, 16),
         dscp: dscp_of(packet),

@@ -3,18 +3,19 @@
 use Prim.Native.Nat.{ℕ, ◌+◌, ◌-◌, ◌≤◌, ◌<◌}
 use native.Mathlib.Omega.{arith}
 use mathlib.Core.Path.{◌≡◌, sym, ◌∙◌}
-use mathlib.Core.Bool.{Bool, true, false, false≢true}
+use mathlib.Core.Bool.{true, false, false≢true}
 use mathlib.Core.List.{List}
 use lib.ListN.{length, get_or}
 use borrow.Author.Tests.{eqb-true}
+use Rattle.std.specs.Prelude.{Option, None, Ok}
 use Rattle.octets.specs.Number.{be16, be32, be48}
 use Rattle.octets.specs.Checks.{good, verdict}
 use Rattle.octets.proofs.Bools.{by_cases}
 use Rattle.frame.specs.declared.Header.{Header}
-use Rattle.frame.specs.declared.Reading.TheVariants.{Frame}
+use Rattle.frame.specs.declared.Tag.{Tag}
 use Rattle.frame.specs.Layout.{C_TAG, destination, source, tagged, vlan, tag_place, announces, sequenced, payload_place}
-use Rattle.frame.specs.Reader.{Before, checks, reading}
-use Rattle.frame.proofs.Verdicts.{header_at, place_bounds, untagged, with_ctag, bare, with_tag}
+use Rattle.frame.specs.Reader.{Before, checks, ctag, reading}
+use Rattle.frame.proofs.Verdicts.{tag_at, header_at, place_bounds, untagged, with_ctag, bare, with_tag}
 use Rattle.frame.proofs.Accepted.{payload_tagged, payload_bare, behind_ctag, behind_tag, good_before, no_ctag}
 use Rattle.tag.specs.RoundTrip.{retagged}
 use Rattle.tag.proofs.Splice.{Spliced}
@@ -34,10 +35,10 @@ module _ {x y : List ℕ} {at : ℕ} (same : Same x y at) where
   same_address k h = omega (arith, same_word k (omega arith), same_word (k + 2) (omega arith), same_word (k + 2 + 2) (omega arith))
 
   -- and its header but for what it says of a sequence tag, where the last types are equal
-  same_header : 12 ≤ at → (t : Bool) (v l m p q a b : ℕ) → be16 y q ≡ be16 x p
-      → header_at y t v m b q ≡ retagged (header_at x t v l a p) m b (q + 2)
-  unfolding header_at retagged destination source
-  same_header far t v l m p q a b e = simp (same_address 0 (omega arith), same_address 6 (omega arith), e)
+  same_header : 12 ≤ at → (v : Option ℕ) (s t : Option Tag) (p q : ℕ) → be16 y q ≡ be16 x p
+      → header_at y v t q ≡ retagged (header_at x v s p) t (q + 2)
+  unfolding retagged destination source
+  same_header far v s t p q e = simp (same_address 0 (omega arith), same_address 6 (omega arith), e)
 
 -- a type that announces a sequence tag announces no C-TAG
 pub no_type_of_both : {m : ℕ} → announces m ≡ true → m ≡ C_TAG → ⊥
@@ -47,11 +48,11 @@ no_type_of_both k x = false≢true (rw x at k)
 -- all before the sequence tag's place of a good frame `x`, in a frame `y` that has the same octets there: the C-TAG of one is the other's
 module _ (x y : List ℕ) (ok : verdict (checks x) ≡ good) (same : Same x y (tag_place x)) where
   pub before_alike : tag_place x + 2 ≤ length y → length y ≤ 1522 → (be16 y (tag_place x) ≡ C_TAG → ⊥)
-      → Before y (tag_place x) (tagged x) (vlan x)
-  unfolding tag_place vlan tagged
+      → Before y (tag_place x) (ctag x)
+  unfolding tag_place ctag vlan tagged
   before_alike large small other = by_cases (tagged x) with_one without
     where
-      with_one : tagged x ≡ true → Before y (tag_place x) (tagged x) (vlan x)
+      with_one : tagged x ≡ true → Before y (tag_place x) (ctag x)
       with_one e =
           let s : tag_place x ≡ 16 = simp e in
           let g = behind_ctag x ok e in
@@ -66,7 +67,7 @@ module _ (x y : List ℕ) (ok : verdict (checks x) ≡ good) (same : Same x y (t
           (λ z. g.1 (simp e (omega (arith, vid))))
           (λ z. other (rw s z)))
 
-      without : tagged x ≡ false → Before y (tag_place x) (tagged x) (vlan x)
+      without : tagged x ≡ false → Before y (tag_place x) (ctag x)
       without e =
           let s : tag_place x ≡ 12 = simp e in rw e (untagged y (omega arith) small (λ z. other (rw s z)))
 
@@ -79,31 +80,31 @@ module _ {b i : List ℕ} {at : ℕ} (T : Spliced b i at) where
       rw e (omega (arith, T.behind k h, T.behind (k + 1) (omega arith)))
 
   -- all before the place is read and good, of both
-  module _ {t : Bool} {v : ℕ} (below : Before b at t v) (above : Before i at t v)
+  module _ {v : Option ℕ} (below : Before b at v) (above : Before i at v)
       (there : announces (be16 i at) ≡ true) (c : be16 b at ≡ C_TAG → ⊥) (r : announces (be16 b at) ≡ false) (l : at + 8 ≤ length i) where
-    reads_bare : Frame (header_at b t v 0 0 at) ≡ reading b
+    reads_bare : Ok (header_at b v None at) ≡ reading b
     reads_bare = bare below r
 
-    reads_tagged : Frame (retagged (header_at b t v 0 0 at) (be16 i at) (be16 i (at + 4)) (at + 6 + 2)) ≡ reading i
+    reads_tagged : Ok (retagged (header_at b v None at) (tag_at i at) (at + 6 + 2)) ≡ reading i
     reads_tagged =
         let behind = word_behind at (omega arith) in
         let far = (place_bounds below).0 in
         let same : Same b i at = record { octet = T.before } in
-        let like = same_header same far t v 0 (be16 i at) at (at + 6) 0 (be16 i (at + 4)) behind in
+        let like = same_header same far v None (tag_at i at) at (at + 6) behind in
         rw (← like) (with_tag above there l (λ x. c (sym behind ∙ x)) (rw behind r))
 
     module _ {h : Header} where
-      pub reads_in : Frame h ≡ reading b → Frame (retagged h (be16 i at) (be16 i (at + 4)) (h.payload + 6)) ≡ reading i
-      unfolding header_at retagged
+      pub reads_in : Ok h ≡ reading b → Ok (retagged h (tag_at i at) (h.payload + 6)) ≡ reading i
+      unfolding retagged
       reads_in e =
-          let is : h ≡ header_at b t v 0 0 at = cc reads_bare in
+          let is : h ≡ header_at b v None at = cc reads_bare in
           let eight : at + 2 + 6 ≡ at + 6 + 2 = omega arith in
           rw is (simp eight reads_tagged)
 
-      pub reads_off : Frame h ≡ reading i → Frame (retagged h 0 0 (h.payload - 6)) ≡ reading b
-      unfolding header_at retagged
+      pub reads_off : Ok h ≡ reading i → Ok (retagged h None (h.payload - 6)) ≡ reading b
+      unfolding retagged
       reads_off e =
-          let is : h ≡ retagged (header_at b t v 0 0 at) (be16 i at) (be16 i (at + 4)) (at + 6 + 2) = cc reads_tagged in
+          let is : h ≡ retagged (header_at b v None at) (tag_at i at) (at + 6 + 2) = cc reads_tagged in
           let two : at + 6 + 2 - 6 ≡ at + 2 = omega arith in
           simp (is, two) reads_bare
 
@@ -118,16 +119,16 @@ module _ (x y : List ℕ) (ok : verdict (checks x) ≡ good) (same : Same x y (p
   type_there : be16 y (tag_place x) ≡ be16 x (tag_place x)
   type_there = same_word same (tag_place x) (omega (arith, place_before))
 
-  above : Before y (tag_place x) (tagged x) (vlan x)
+  above : Before y (tag_place x) (ctag x)
   above =
       before_alike x y ok (record { octet = λ k h. same.octet k (omega (arith, place_before)) }) (omega (arith, place_before)) small
       (λ z. no_ctag x ok (sym type_there ∙ z))
 
   -- a header with the last type at a place before the payload
-  header_there : (m n p : ℕ) → p + 1 < payload_place x → header_at y (tagged x) (vlan x) m n p ≡ header_at x (tagged x) (vlan x) m n p
-  unfolding header_at retagged
-  header_there m n p h =
-      same_header same (omega (arith, place_before, (place_bounds above).0)) (tagged x) (vlan x) m m p p n n (same_word same p h)
+  header_there : (t : Option Tag) (p : ℕ) → p + 1 < payload_place x → header_at y (ctag x) t p ≡ header_at x (ctag x) t p
+  unfolding retagged
+  header_there t p h =
+      same_header same (omega (arith, place_before, (place_bounds above).0)) (ctag x) t t p p (same_word same p h)
 
   pub same_reading : reading y ≡ reading x
   unfolding sequenced
@@ -143,11 +144,11 @@ module _ (x y : List ℕ) (ok : verdict (checks x) ≡ good) (same : Same x y (p
           ∙ rw (
             type_there,
             same_word same (tag_place x + 4) (omega arith),
-            header_there (be16 x (tag_place x)) (be16 x (tag_place x + 4)) (tag_place x + 6) (omega arith),
+            header_there (tag_at x (tag_place x)) (tag_place x + 6) (omega arith),
           )
           (with_tag (good_before x ok) s (omega (arith, g.0)) g.1 g.2)
 
       without : sequenced x ≡ false → reading y ≡ reading x
       without s =
           let p = payload_bare x s in
-          sym (bare above (rw type_there s)) ∙ rw (header_there 0 0 (tag_place x) (omega arith)) (bare (good_before x ok) s)
+          sym (bare above (rw type_there s)) ∙ rw (header_there None (tag_place x) (omega arith)) (bare (good_before x ok) s)

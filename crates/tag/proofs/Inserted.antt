@@ -8,14 +8,14 @@ use mathlib.Core.List.{List}
 use lib.ListN.{length}
 use lib.Dec.{leb}
 use borrow.Author.Tests.{ltb-false, le-ltb, le-leb, eq-eqb}
+use Rattle.std.specs.Prelude.{Some, Ok}
 use Rattle.octets.specs.Number.{be16}
 use Rattle.octets.specs.Checks.{good, verdict, ◌then◌}
 use Rattle.octets.proofs.Bools.{by_cases}
 use Rattle.octets.proofs.Order.{verdict_append, clear, both_good}
 use Rattle.frame.specs.declared.Header.{Header}
-use Rattle.frame.specs.declared.Reading.TheVariants.{Frame}
-use Rattle.frame.specs.Layout.{tagged, vlan, tag_place, announces, sequenced, payload_length}
-use Rattle.frame.specs.Reader.{Before, checks, reading}
+use Rattle.frame.specs.Layout.{tag_place, announces, sequenced, payload_length}
+use Rattle.frame.specs.Reader.{Before, checks, ctag, reading}
 use Rattle.frame.proofs.Accepted.{frame_good, good_frame, payload_within, payload_bare, good_before, no_ctag}
 use Rattle.encoding.specs.declared.Encoding.{Encoding}
 use Rattle.encoding.specs.declared.Encoding.TheVariants.{RTag, Hsr, Prp}
@@ -122,14 +122,14 @@ module _ (e : Encoding) (o : List ℕ) (n id room : ℕ) (accepted : verdict (in
     front_splice : Spliced o (inserted e o n id) (tag_place o)
     front_splice = rw (at_front f) at splice
 
-    front_before : Before (inserted e o n id) (tag_place o) (tagged o) (vlan o)
+    front_before : Before (inserted e o n id) (tag_place o) (ctag o)
     front_before =
         before_alike o (inserted e o n id) ins.reads (record { octet = front_splice.before })
         (omega (arith, type_within f, splice.long))
         (omega (arith, ins.short, splice.long))
         (λ z. no_type_of_both (mark_announces e f) (sym announced_there ∙ z))
 
-    front_reads : {h : Header} → Frame h ≡ reading o → Frame (retagged h (mark e) n (h.payload + 6)) ≡ reading (inserted e o n id)
+    front_reads : {h : Header} → Ok h ≡ reading o → Ok (retagged h (Some (record { kind = mark e; number = n })) (h.payload + 6)) ≡ reading (inserted e o n id)
     front_reads r =
         rw (announced_there, number_put)
         at (reads_in front_splice (good_before o ins.reads) front_before (rw announced_there (mark_announces e f))
@@ -156,7 +156,7 @@ module _ (e : Encoding) (o : List ℕ) (n id room : ℕ) (accepted : verdict (in
         omega (arith, was, is, splice.long, payload_within o ins.reads)
 
   -- an inserted frame reads as the first one did
-  pub inserted_reads : {h : Header} → Frame h ≡ reading o → Frame (with_tag e n h) ≡ reading (inserted e o n id)
+  pub inserted_reads : {h : Header} → Ok h ≡ reading o → Ok (with_tag e n h) ≡ reading (inserted e o n id)
   unfolding with_tag
   inserted_reads r = by_cases (in_front e) (λ f. rw f (front_reads f r)) (λ f. rw f (r ∙ sym (back_reads f)))
 

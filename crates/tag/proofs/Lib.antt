@@ -1,5 +1,4 @@
 pub mod Splice
-pub mod Decided
 pub mod Unique
 pub mod Alike
 pub mod Inserted

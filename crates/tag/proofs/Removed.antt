@@ -7,19 +7,19 @@ use mathlib.Core.Bool.{true, false, false≢true, ◌&&◌}
 use mathlib.Core.List.{List, ◌++◌}
 use lib.ListN.{length, get_or, take, drop}
 use borrow.Author.Tests.{ltb-false, le-ltb, eqb-true, ne_eqb, not-false}
+use Rattle.std.specs.Prelude.{None, Ok}
 use Rattle.octets.specs.Number.{be16}
 use Rattle.octets.specs.Checks.{good, verdict, ◌then◌}
 use Rattle.octets.proofs.Bools.{by_cases}
 use Rattle.octets.proofs.Order.{verdict_append, clear, both_good}
 use Rattle.frame.specs.declared.Header.{Header}
-use Rattle.frame.specs.declared.Reading.TheVariants.{Frame}
-use Rattle.frame.specs.Layout.{C_TAG, tagged, vlan, tag_place, announces, sequenced, payload_place, payload_length}
-use Rattle.frame.specs.Reader.{Before, checks, reading}
+use Rattle.frame.specs.Layout.{C_TAG, tag_place, announces, sequenced, payload_place, payload_length}
+use Rattle.frame.specs.Reader.{Before, checks, ctag, reading}
 use Rattle.frame.proofs.Accepted.{most, frame_good, good_frame, behind_tag, good_before}
 use Rattle.encoding.specs.declared.Encoding.{Encoding}
 use Rattle.encoding.specs.declared.Encoding.TheVariants.{RTag, Hsr, Prp}
 use Rattle.encoding.specs.Encodings.{in_front, place, mark, words, six, carries, standing, number_at, id_in}
-use Rattle.encoding.specs.Encodings.{unnumbered, sequence}
+use Rattle.encoding.specs.Encodings.{unnumbered, number_of, path_of, sequence}
 use Rattle.encoding.proofs.Carried.{mark_announces, carries_front, carried_sequenced, starts}
 use Rattle.encoding.proofs.Carried.{trailed, standing_within}
 use Rattle.encoding.proofs.ThreeWords.{written_again, six_long, id_between}
@@ -83,14 +83,14 @@ module _ (e : Encoding) (o : List ℕ) (room : ℕ) (accepted : verdict (remove_
     type_moved : be16 o (tag_place o + 6) ≡ be16 (removed e o) (tag_place o)
     type_moved = word_behind front_unsplice (tag_place o) (omega arith)
 
-    front_below : Before (removed e o) (tag_place o) (tagged o) (vlan o)
+    front_below : Before (removed e o) (tag_place o) (ctag o)
     front_below =
         before_alike o (removed e o) rem.reads (record { octet = λ k h. sym (front_unsplice.before k h) })
         (omega (arith, behind.0, unsplice.long))
         (omega (arith, most o rem.reads, unsplice.long))
         (λ z. behind.1 (type_moved ∙ z))
 
-    front_reads_off : {h : Header} → Frame h ≡ reading o → Frame (retagged h 0 0 (h.payload - 6)) ≡ reading (removed e o)
+    front_reads_off : {h : Header} → Ok h ≡ reading o → Ok (retagged h None (h.payload - 6)) ≡ reading (removed e o)
     unfolding sequenced
     front_reads_off r =
         reads_off front_unsplice front_below (good_before o rem.reads) there (λ z. behind.1 (type_moved ∙ z))
@@ -125,7 +125,7 @@ module _ (e : Encoding) (o : List ℕ) (room : ℕ) (accepted : verdict (remove_
         (omega (arith, most o rem.reads, unsplice.long))
 
   -- a frame with its tag or trailer taken off reads as before
-  pub removed_reads : {h : Header} → Frame h ≡ reading o → Frame (without_tag e h) ≡ reading (removed e o)
+  pub removed_reads : {h : Header} → Ok h ≡ reading o → Ok (without_tag e h) ≡ reading (removed e o)
   unfolding without_tag
   removed_reads r = by_cases (in_front e) (λ f. rw f (front_reads_off f r)) (λ f. rw f (r ∙ sym (back_reads_off f)))
 
@@ -175,7 +175,7 @@ module _ (e : Encoding) (o : List ℕ) (room : ℕ) (accepted : verdict (remove_
     mark_stood : be16 o (standing e o) ≡ mark e
     mark_stood = rw (standing_front f) (eqb-true _ (mark e) (sym (carries_front e o f) ∙ rem.carried))
 
-    number_stood : be16 o (standing e o + 4) ≡ (sequence e o).number
+    number_stood : be16 o (standing e o + 4) ≡ number_of (sequence e o)
     unfolding sequence number_at
     number_stood = rw (rem.carried, f) refl
 
@@ -185,13 +185,13 @@ module _ (e : Encoding) (o : List ℕ) (room : ℕ) (accepted : verdict (remove_
         let last : standing e o + 4 ≡ length o - 2 = omega (arith, standing_back f, six_within) in
         rw last (trailed e o rem.reads rem.carried f).1
 
-    number_led : be16 o (standing e o) ≡ (sequence e o).number
+    number_led : be16 o (standing e o) ≡ number_of (sequence e o)
     unfolding sequence number_at
     number_led = let e' : standing e o + 0 ≡ standing e o = omega arith in rw (rem.carried, f, e') refl
 
   -- taken off, then put in with the same number and id, gives the first frame exactly where the word between is as insertion writes it
   module _ (octets : (k : ℕ) → get_or o k 0 < 256) where
-    pub id_small : (sequence e o).path ≤ 15
+    pub id_small : path_of (sequence e o) ≤ 15
     unfolding sequence
     id_small = rw rem.carried (id_below e (be16 o (standing e o + 2)) (word_below o octets (standing e o + 2)))
 
@@ -214,19 +214,19 @@ module _ (e : Encoding) (o : List ℕ) (room : ℕ) (accepted : verdict (remove_
         (rw between (omega (arith, sized, was, is, unsplice.long, payload_before f))))
 
     own_six : AsWritten e o
-        → take 6 (drop (standing e o) o) ≡ six e (sequence e o).number (sequence e o).path (size_of (removed e o))
+        → take 6 (drop (standing e o) o) ≡ six e (number_of (sequence e o)) (path_of (sequence e o)) (size_of (removed e o))
     unfolding six words AsWritten
     own_six w =
         six_of_words o (standing e o) six_within octets
         ∙ by_cases (in_front e) (λ f. rw (f, mark_stood f, w, number_stood f) refl) (λ f. rw (f, number_led f, w, suffix_stood f) refl)
 
-    pub removed_inserted : let again = inserted e (removed e o) (sequence e o).number (sequence e o).path in
+    pub removed_inserted : let again = inserted e (removed e o) (number_of (sequence e o)) (path_of (sequence e o)) in
         (again ≡ o → AsWritten e o) × (AsWritten e o → again ≡ o)
     unfolding AsWritten inserted
     removed_inserted =
         let size = size_of (removed e o) in
-        let n = (sequence e o).number in
-        let id = (sequence e o).path in (
+        let n = number_of (sequence e o) in
+        let id = path_of (sequence e o) in (
           λ e'. sym (ap (λ (l : List ℕ). be16 l (standing e o + 2)) e')
               ∙ rw same_place
               (word_in (removed e o) (six e n id size) (standing e o) (six_long e n id size) unsplice.within 2 (omega arith)

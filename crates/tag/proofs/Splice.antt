@@ -2,11 +2,10 @@
 use Prim.Native.Nat.{ℕ, zero, suc, ◌+◌, ◌-◌, ◌≤◌, ◌<◌}
 use native.Mathlib.Omega.{arith}
 use mathlib.Core.Path.{◌≡◌, refl, sym, ◌∙◌, ap}
-use mathlib.Core.Bool.{Bool, true}
+use mathlib.Core.Bool.{Bool}
 use mathlib.Core.List.{List, [], ◌∷◌, ◌++◌, append_assoc}
 use lib.ListN.{length, get_or, take, drop, length-append, length-drop, take-append-drop, get_or-append}
 use lib.Seq.{length-take-le, take_at, drop_at, drop-drop, ext_get_or, get_or-append-add, get_or-take, get_or-drop}
-use borrow.Author.Tests.{le-leb}
 use Rattle.octets.specs.Number.{be16}
 use Rattle.octets.specs.Copy.{put_in, Puts}
 use borrow.Rule.Slice.PartMut.{put_mid, mid_of}
@@ -81,16 +80,6 @@ module _ (o six : List ℕ) (at : ℕ) (n : length six ≡ 6) (w : at ≤ length
             ∙ ap (λ (j : ℕ). get_or o j 0) e;
       }
 
--- the six and the octets behind them, one after the other, are put as one copy would put them
-pub put_tagged : (six rest out : List ℕ) → length six ≡ 6 → length rest + 6 ≤ length out
-    → {front back : List ℕ} {r r' : Bool} → Puts six out r front
-    → Puts rest (mid_of 6 (length front - 6) front) r' back
-    → Puts (six ++ rest) out true (put_mid 6 (length front - 6) front back)
-put_tagged six rest out n room p q =
-    let fits : length (six ++ rest) ≤ length out = simp (length-append) (omega arith) in
-    let whole = put_next six rest out (put_first (omega arith) p) (sym n) (omega arith) q in
-    record { answer = sym (le-leb _ _ fits); buffer = simp (le-leb _ _ fits, whole) }
-
 -- two copies in a row: the octets before a place, and others behind them
 put_two : (o others out : List ℕ) (at : ℕ) → at ≤ length o → at + length others ≤ length out
     → {front back : List ℕ} {r r' : Bool} → Puts (take at o) out r front → Puts others (mid_of at (length front - at) front) r' back
@@ -99,14 +88,19 @@ put_two o others out at within room p q =
     let l = length-take-le at o within in
     put_next (take at o) others out (put_first (omega (arith, l)) p) (sym l) (omega (arith, l)) q
 
+-- and three: the six between them
 pub put_with : (o six out : List ℕ) (at : ℕ) → length six ≡ 6 → at ≤ length o → length o + 6 ≤ length out
-    → {front back : List ℕ} {r r' : Bool} → Puts (take at o) out r front
-    → Puts (six ++ take (length o - at) (drop at o)) (mid_of at (length front - at) front) r' back
-    → put_mid at (length front - at) front back ≡ put_in (inserted_at o at six) out
+    → {front mid back : List ℕ} {r r' r'' : Bool} → Puts (take at o) out r front → Puts six (mid_of at (length front - at) front) r' mid
+    → let two = put_mid at (length front - at) front mid in
+    Puts (take (length o - at) (drop at o)) (mid_of (at + 6) (length two - (at + 6)) two) r'' back
+    → put_mid (at + 6) (length two - (at + 6)) two back ≡ put_in (inserted_at o at six) out
 unfolding inserted_at
-put_with o six out at n within room p q =
-    let long : at + length (six ++ drop at o) ≤ length out = simp (length-append, length-drop, n) (omega arith) in
-    put_two o (six ++ drop at o) out at within long p (rw (to_end at o) at q)
+put_with o six out at n within room p q t =
+    let l = length-take-le at o within in
+    let long : length (take at o ++ six) ≡ at + 6 = simp (length-append, l, n) in
+    rw (← append_assoc (take at o) six (drop at o))
+    (put_next (take at o ++ six) (drop at o) out (put_two o six out at within (omega arith) p q) (sym long) (omega (arith, long, length-drop at o))
+    (rw (to_end at o) at t))
 
 pub put_without : (o out : List ℕ) (at : ℕ) → at + 6 ≤ length o → length o ≤ length out + 6
     → {front back : List ℕ} {r r' : Bool} → Puts (take at o) out r front

@@ -4,11 +4,11 @@ use mathlib.Core.Path.{◌≡◌, refl, sym, ◌∙◌}
 use mathlib.Core.List.{List}
 use lib.ListN.{length, take}
 use lib.Seq.{take-append_seam}
+use Rattle.std.specs.Prelude.{Result, Ok}
+use Rattle.octets.specs.declared.Refusal.{Refusal}
 use Rattle.octets.specs.Checks.{Verdict, good, refuse, verdict}
-use Rattle.encoding.specs.Encodings.{sequence}
+use Rattle.encoding.specs.Encodings.{number_of, path_of, sequence}
 use Rattle.encoding.proofs.Answered.{header_of, reads_as}
-use Rattle.tag.specs.declared.Written.{Written}
-use Rattle.tag.specs.declared.Written.TheVariants.{Length}
 use Rattle.tag.specs.Output.{Writes}
 use Rattle.tag.specs.Insertion.{inserted, insert_checks}
 use Rattle.tag.specs.Removal.{removed, remove_checks}
@@ -22,15 +22,15 @@ pub record Wrote (v : Verdict) (result : List ℕ) (k : ℕ) (later : List ℕ) 
   pub accepted : v ≡ good
   pub written : take k later ≡ result
 
-pub wrote : (v : Verdict) {result out : List ℕ} {k : ℕ} {later : List ℕ} → Writes v result out (Length k) later → Wrote v result k later
+pub wrote : (v : Verdict) {result out : List ℕ} {k : ℕ} {later : List ℕ} → Writes v result out (Ok k) later → Wrote v result k later
 wrote good {result} {k = k} p =
     let all : k ≡ length result = cc p.answer in
     record { accepted = refl; written = simp (all, p.buffer, take-append_seam) }
 wrote (refuse n) p = record { accepted = cc p.answer; written = cc p.answer }
 
 -- where the verdict is good, a call answers the result's length and writes it
-answers : {v : Verdict} {result out : List ℕ} {r : Written} {later : List ℕ} → v ≡ good → Writes v result out r later
-    → (r ≡ Length (length result)) × (take (length result) later ≡ result)
+answers : {v : Verdict} {result out : List ℕ} {r : Result ℕ Refusal} {later : List ℕ} → v ≡ good → Writes v result out r later
+    → (r ≡ Ok (length result)) × (take (length result) later ≡ result)
 answers e p = (p.answer ∙ simp e, simp (p.buffer, e, take-append_seam))
 
 pub insert_then_remove : InsertThenRemove
@@ -43,8 +43,8 @@ insert_then_remove e o n id out k later out' r later' p room q =
 pub remove_then_insert : RemoveThenInsert
 remove_then_insert e o out k later out' r later' octets p room q =
     let w = wrote (verdict (remove_checks e o (length out))) p in
-    let number = (sequence e o).number in
-    let id = (sequence e o).path in
+    let number = number_of (sequence e o) in
+    let id = path_of (sequence e o) in
     let small = id_small e o (length out) w.accepted octets in
     let a = answers (removed_insertable e o (length out) w.accepted id (length out') small room) (rw w.written at q) in
     let only = removed_inserted e o (length out) w.accepted octets in
@@ -57,13 +57,13 @@ remove_then_insert e o out k later out' r later' octets p room q =
     )
 
 pub insert_then_read : InsertThenRead
-insert_then_read e o n id out k later h s r p q t =
+insert_then_read e o n id out k later a r p q t =
     let w = wrote (verdict (insert_checks e o id (length out))) p in
     let is = inserted_reads e o n id (length out) w.accepted (header_of e o q).0 in
     rw w.written at t ∙ reads_as e (inserted e o n id) is ∙ rw (inserted_sequence e o n id (length out) w.accepted) refl
 
 pub remove_then_read : RemoveThenRead
-remove_then_read e o out k later h s r p q t =
+remove_then_read e o out k later a r p q t =
     let w = wrote (verdict (remove_checks e o (length out))) p in
     let is = removed_reads e o (length out) w.accepted (header_of e o q).0 in
     rw w.written

@@ -1,11 +1,12 @@
 -- A tag or a trailer put in (document 01, "Reading a frame"; document 02, CR 5), said over the encoding. Assumes nothing.
-use Rattle.std.specs.Prelude.{ℕ, ◌+◌, ◌&&◌, List, [], ◌∷◌, ◌++◌, length, take, drop, ltb}
+use Rattle.std.specs.Prelude.{ℕ, ◌+◌, ◌&&◌, List, [], ◌∷◌, ◌++◌, length, take, drop, ltb, Result}
+use Rattle.octets.specs.declared.Refusal.{Refusal}
+use Rattle.octets.specs.declared.Refusal.TheVariants.{TagThere, ResultLong, OutputShort, PathId}
 use Rattle.octets.specs.Checks.{Check, ◌⇒◌, verdict}
 use Rattle.frame.specs.Layout.{tag_place, sequenced, tag_length, payload_length}
 use Rattle.frame.specs.Reader.{checks}
 use Rattle.encoding.specs.declared.Encoding.{Encoding}
 use Rattle.encoding.specs.Encodings.{in_front, place, six}
-use Rattle.tag.specs.declared.Written.{Written}
 use Rattle.tag.specs.Output.{Writes}
 
 -- octets with others put in at a place
@@ -26,12 +27,12 @@ inserted e o number id = inserted_at o (place e (tag_place o) (length o)) (six e
 unfoldable pub insert_checks : Encoding → List ℕ → (id room : ℕ) → List Check
 insert_checks e o id room =
     checks o
-    ++ (ltb 15 id ⇒ 37
-    ∷ (in_front e && sequenced o) ⇒ 6
-    ∷ ltb 1522 (length o + tag_length) ⇒ 7
-    ∷ ltb room (length o + tag_length) ⇒ 8
+    ++ (ltb 15 id ⇒ PathId
+    ∷ (in_front e && sequenced o) ⇒ TagThere
+    ∷ ltb 1522 (length o + tag_length) ⇒ ResultLong
+    ∷ ltb room (length o + tag_length) ⇒ OutputShort
     ∷ [])
 
 -- the promise of `insert`
-abbrev pub Inserts : Encoding → List ℕ → (number id : ℕ) → List ℕ → Written → List ℕ → Type 0
+abbrev pub Inserts : Encoding → List ℕ → (number id : ℕ) → List ℕ → Result ℕ Refusal → List ℕ → Type 0
 Inserts e o number id out r later = Writes (verdict (insert_checks e o id (length out))) (inserted e o number id) out r later

@@ -2,14 +2,9 @@
 use Prim.Native.Nat.{ℕ}
 use mathlib.Core.Path.{◌≡◌}
 use mathlib.Core.List.{List}
-use Rattle.octets.specs.Checks.{Verdict}
-use Rattle.octets.proofs.Unique.{one}
 use Rattle.encoding.specs.declared.Encoding.{Encoding}
-use Rattle.tag_c.specs.Tags.{WritesTo, InsertsTo, RemovesTo}
-
-writes_to_one : {v : Verdict} {result out : List ℕ} {before a b : ℕ} {l m : List ℕ} {i j : ℕ} → WritesTo v result out before a l i
-    → WritesTo v result out before b m j → (a ≡ b) × (l ≡ m) × (i ≡ j)
-writes_to_one p q = (one p.answer q.answer, one p.buffer q.buffer, one p.told q.told)
+use Rattle.words.proofs.Unique.{writes_to_one}
+use Rattle.tag_c.specs.Tags.{InsertsTo, RemovesTo}
 
 module _ (e : Encoding) (o : List ℕ) {out : List ℕ} {before a b : ℕ} {l m : List ℕ} {i j : ℕ} where
   pub inserts_to_one : (n id : ℕ) → InsertsTo e o n id out before a l i → InsertsTo e o n id out before b m j → (a ≡ b) × (l ≡ m) × (i ≡ j)

@@ -1,10 +1,9 @@
 // "Reading a frame" (document 01; document 02, CR 5) for C: a tag or a trailer put in and taken off. The encoding is in the name of the
 // call, so that no other can be handed in.
 ghost use Rattle.encoding.specs.declared.Encoding.TheVariants.{RTag, Hsr, Prp};
-ghost use Rattle.tag_c.specs.Tags.{InsertsTo, RemovesTo, Tells};
+ghost use Rattle.tag_c.specs.Tags.{InsertsTo, RemovesTo};
 
 use encoding::Encoding;
-use tag::Written;
 
 // The frame with an R-TAG, which has no id, written to `out`, and its length.
 #[unsafe(no_mangle)]
@@ -79,27 +78,13 @@ fn insert_to(
     ensures { InsertsTo encoding frame.now number path out.old length.old result out.new
         length.new }
 {
-    tell(
-        insertion::insert(frame, encoding, number, path, out),
-        length,
-    )
+    let written = insertion::insert(frame, encoding, number, path, out);
+    words::told(written, length)
 }
 
 fn remove_to(frame: &[u8], encoding: Encoding, out: &mut [u8], length: &mut usize) -> u8
     ensures { RemovesTo encoding frame.now out.old length.old result out.new length.new }
 {
-    tell(removal::remove(frame, encoding, out), length)
-}
-
-// The length of what was written, and 0; or the refusal.
-fn tell(written: Written, length: &mut usize) -> u8
-    ensures { Tells written length.old result length.new }
-{
-    match written {
-        Written::Length(n) => {
-            *length = n;
-            0
-        }
-        Written::Refused(number) => number,
-    }
+    let written = removal::remove(frame, encoding, out);
+    words::told(written, length)
 }
