@@ -8,15 +8,16 @@ use mathlib.Core.Logic.{◌⊎◌, inl, inr, ⊎_elim}
 use lib.ListN.{get_or}
 use lib.Dec.{eqb}
 use borrow.Author.Tests.{ltb-false, eqb-true, eqb-false, eq-eqb, ne_eqb, not-true}
+use Rattle.std.specs.Prelude.{Some}
 use Rattle.octets.specs.Number.{be16, be32, be48}
 use Rattle.octets.specs.Checks.{good, verdict}
 use Rattle.octets.proofs.Bools.{by_cases, both, and_true, neither}
 use Rattle.frame.specs.declared.Header.{Header}
 use Rattle.frame.specs.Layout.{destination, source, tagged, vlan as frame_vlan, tag_place, announces, sequenced}
-use Rattle.frame.specs.Reader.{length_checks, ctag_checks, checks, header}
+use Rattle.frame.specs.Reader.{length_checks, ctag_checks, checks, ctag, header}
 use Rattle.entry.specs.Contents.{kind, IP, address, choice, vlan, out_of_range, unfit}
-use Rattle.entry.specs.Matching.{choice_allows, allows, address_of, matches}
-use Rattle.entry.specs.Front.{NoTagNoVlan, choice_fits}
+use Rattle.entry.specs.Matching.{vlan_id, choice_allows, allows, address_of, matches}
+use Rattle.entry.specs.Front.{choice_fits}
 use Rattle.entry.specs.Ambiguous.{by_address, matches_frame, Ambiguous, NeverAmbiguous}
 use Rattle.entry.specs.Clash.{meet, clash, clash_by}
 use Rattle.entry.proofs.Front.{choice-fits}
@@ -74,15 +75,15 @@ module _ {c v o b : ℕ} where
       let second : Takes o b v = record { priority = λ p. (none.1 p).0; asked = λ n. sym (equal n) } in
       inr (record { priority = λ p. (none.0 p).0; asked = λ n. refl }, second))
 
--- an entry takes the id of a frame that it allows, if that has VLAN id 0 where it has no C-TAG
-allowed : (e : List ℕ) (asked : ℕ) (h : Header) → NoTagNoVlan h → allows e asked h ≡ true → Takes (choice e) (vlan e) h.vlan
+-- an entry takes the id of a frame that it allows
+allowed : (e : List ℕ) (asked : ℕ) (h : Header) → allows e asked h ≡ true → Takes (choice e) (vlan e) (vlan_id h.vlan)
 unfolding allows choice_fits
-allowed e asked h none a =
-    let parts = both _ (eqb (vlan e) 0 || eqb (vlan e) h.vlan) a in
-    let fits = choice-fits (choice e) h.vlan h.tagged none ∙ (both (eqb (address e) asked) _ parts.0).1 in
+allowed e asked h a =
+    let parts = both _ (eqb (vlan e) 0 || eqb (vlan e) (vlan_id h.vlan)) a in
+    let fits = choice-fits (choice e) h.vlan ∙ (both (eqb (address e) asked) _ parts.0).1 in
     record {
-      priority = λ p. eqb-true h.vlan 0 (simp (p, or-false) at fits);
-      asked = λ n. eqb-true (vlan e) h.vlan (rw (ne_eqb (vlan e) 0 n) at parts.1);
+      priority = λ p. eqb-true (vlan_id h.vlan) 0 (simp (p, or-false) at fits);
+      asked = λ n. eqb-true (vlan e) (vlan_id h.vlan) (rw (ne_eqb (vlan e) 0 n) at parts.1);
     }
 
 module _ (e : List ℕ) (fit : unfit e ≡ false) where
@@ -93,20 +94,20 @@ module _ (e : List ℕ) (fit : unfit e ≡ false) where
       let ends = neither _ _ parts.0 in
       (ltb-false _ _ ends.0, ltb-false _ _ ends.1, ltb-false _ _ parts.1)
 
-  module _ (h : Header) (t : h.tagged ≡ true) (p : Takes (choice e) (vlan e) h.vlan) where
-    by_choice : choice_allows (choice e) h.tagged h.vlan ≡ true
+  module _ (h : Header) {id : ℕ} (t : h.vlan ≡ Some id) (p : Takes (choice e) (vlan e) id) where
+    by_choice : choice_allows (choice e) h.vlan ≡ true
     unfolding choice_allows
     by_choice =
         by_cases (eqb (choice e) 1) (λ one. simp (one, t))
         (λ not-one.
-        by_cases (eqb (choice e) 2) (λ two. simp (p.priority (eqb-true (choice e) 2 two), two, or-true))
+        by_cases (eqb (choice e) 2) (λ two. simp (t, p.priority (eqb-true (choice e) 2 two), two, or-true))
         (λ not-two.
         let range = in_range in
         let three : choice e ≡ 3 = omega (arith, eqb-false (choice e) 1 not-one, eqb-false (choice e) 2 not-two) in
         simp (three, or-true)))
 
-    by_vlan : (eqb (vlan e) 0 || eqb (vlan e) h.vlan) ≡ true
-    by_vlan = by_cases (eqb (vlan e) 0) (λ z. simp z) (λ n. simp (eq-eqb _ _ (p.asked (eqb-false _ _ n)), or-true))
+    by_vlan : (eqb (vlan e) 0 || eqb (vlan e) (vlan_id h.vlan)) ≡ true
+    by_vlan = by_cases (eqb (vlan e) 0) (λ z. simp z) (λ n. simp (t, eq-eqb _ _ (p.asked (eqb-false _ _ n)), or-true))
 
     -- an entry in range allows a frame whose C-TAG has an id that it takes
     taken : allows e (address e) h ≡ true
@@ -146,9 +147,9 @@ module _ (e x : List ℕ) where
 
   frame_header : vlan x ≤ 4094
       → let h = header (witness e x) in
-      (h.tagged ≡ true) × (h.vlan ≡ vlan x) × (h.destination ≡ address e) × (h.source ≡ address e)
-  unfolding witness header destination source tagged frame_vlan address vlan be16 be32 be48
-  frame_header l = (refl, omega arith, refl, refl)
+      (h.vlan ≡ Some (vlan x)) × (h.destination ≡ address e) × (h.source ≡ address e)
+  unfolding witness header ctag destination source tagged frame_vlan address vlan be16 be32 be48
+  frame_header l = (ap (λ (id : ℕ). Some id) (omega arith), refl, refl)
 
   frame_good : vlan x ≤ 4094 → verdict (checks (witness e x)) ≡ good
   unfolding witness checks length_checks ctag_checks verdict tagged frame_vlan tag_place announces sequenced be16 vlan
@@ -171,14 +172,14 @@ module _ (e a x : List ℕ) (known : by_address e ≡ true) (same : address e �
   unfolding address_of
   asks =
       let told = frame_header a x l in
-      by-address e known (λ (k : ℕ). address_of k (header (witness a x)) ≡ address e) (told.2 ∙ sym same) (told.3 ∙ sym same)
+      by-address e known (λ (k : ℕ). address_of k (header (witness a x)) ≡ address e) (told.1 ∙ sym same) (told.2 ∙ sym same)
 
   matched : unfit e ≡ false → Takes (choice e) (vlan e) (vlan x) → matches_frame e (witness a x) ≡ true
   unfolding matches
   matched fit p =
       let told = frame_header a x l in
       let not_ip = by-address e known (λ (k : ℕ). eqb k IP ≡ false) refl refl in
-      rw (asks, not_ip, taken e fit (header (witness a x)) told.0 (rw told.1 p))
+      rw (asks, not_ip, taken e fit (header (witness a x)) told.0 p)
 
 -- two entries for one address, by their tests
 abbrev alike : List ℕ → List ℕ → Bool
@@ -218,9 +219,9 @@ builds e f octets-e octets-f fit-e fit-f c =
         }
 
 -- an entry takes the VLAN id of a frame that it matches
-takes : (e o : List ℕ) → matches_frame e o ≡ true → Takes (choice e) (vlan e) (header o).vlan
-unfolding matches header frame_vlan
-takes e o m = let h = header o in allowed e _ h (λ n. rw n refl) (both (allows e (address_of (kind e) h) h) _ m).0
+takes : (e o : List ℕ) → matches_frame e o ≡ true → Takes (choice e) (vlan e) (vlan_id (header o).vlan)
+unfolding matches
+takes e o m = let h = header o in allowed e _ h (both (allows e (address_of (kind e) h) h) _ m).0
 
 -- and only there, of any two
 pub only_ambiguous : (e f : List ℕ) → Ambiguous e f → clash e f ≡ true

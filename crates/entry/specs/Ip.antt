@@ -1,9 +1,9 @@
 -- What an entry of kind 4 asks of an IPv4 packet (document 02, CR 1). The packet is the payload `p` of a frame. Assumes nothing.
-use Rattle.std.specs.Prelude.{ℕ, ◌+◌, ◌≡◌, Bool, false, cond, not, ◌&&◌, ◌||◌, List, length, leb, eqb}
+use Rattle.std.specs.Prelude.{ℕ, ◌+◌, ◌≡◌, Bool, false, cond, not, ◌&&◌, ◌||◌, List, length, leb, eqb, Result, Ok, Err}
 use Rattle.octets.specs.Number.{be16}
 use Rattle.ipv4.specs.declared.Header.{Header}
-use Rattle.ipv4.specs.declared.Reading.{Reading}
-use Rattle.ipv4.specs.declared.Reading.TheVariants.{Whole, Bad, Cut}
+use Rattle.ipv4.specs.declared.Unread.{Unread}
+use Rattle.ipv4.specs.declared.Unread.TheVariants.{Bad}
 use Rattle.ipv4.specs.Reader.{reading}
 use Rattle.entry.specs.Contents.{source_ip, destination_ip, dscp, protocol, source_port, destination_port}
 
@@ -53,10 +53,9 @@ ip_fits e ip p =
     zero_or (source_ip e) ip.source && zero_or (destination_ip e) ip.destination && dscp_fits (dscp e) ip.dscp && protocol_fits e ip p
 
 -- "a bad or cut header .. is no match"
-abbrev pub fits_as : List ℕ → Reading → List ℕ → Bool
-fits_as e (Whole ip) p = ip_fits e ip p
-fits_as e Bad p = false
-fits_as e Cut p = false
+abbrev pub fits_as : List ℕ → Result Header Unread → List ℕ → Bool
+fits_as e (Ok ip) p = ip_fits e ip p
+fits_as e (Err unread) p = false
 
 -- "A type other than 0800 .. is no match, never a refusal"
 unfoldable pub ip_allows : List ℕ → (type : ℕ) → List ℕ → Bool
@@ -64,13 +63,13 @@ ip_allows e type p = eqb type IPv4 && fits_as e (reading p) p
 
 -- `packet_of`: the packet that is read once for all entries, with the type's test in it. Another type reads as a bad header, which fits no
 -- entry either
-unfoldable pub packet_of : (type : ℕ) → List ℕ → Reading
-packet_of type p = cond (eqb type IPv4) (reading p) Bad
+unfoldable pub packet_of : (type : ℕ) → List ℕ → Result Header Unread
+packet_of type p = cond (eqb type IPv4) (reading p) (Err Bad)
 
 -- the promises: of `packet_of`
-abbrev pub ReadsPacket : ℕ → List ℕ → Reading → Type 0
+abbrev pub ReadsPacket : ℕ → List ℕ → Result Header Unread → Type 0
 ReadsPacket type p r = r ≡ packet_of type p
 
 -- of `ip_allows`
-abbrev pub AllowsIp : List ℕ → Reading → List ℕ → Bool → Type 0
+abbrev pub AllowsIp : List ℕ → Result Header Unread → List ℕ → Bool → Type 0
 AllowsIp e packet p r = r ≡ fits_as e packet p

@@ -1,19 +1,24 @@
 -- When an entry matches a frame (document 01, "Stream tables"; 002 clauses 9.1.2 and 9.1.3 for the three tag choices; document 02, CR 1 for
 -- IP streams). Assumes nothing.
-use Rattle.std.specs.Prelude.{ℕ, ◌≡◌, Bool, cond, not, ◌&&◌, ◌||◌, List, eqb}
+use Rattle.std.specs.Prelude.{ℕ, ◌≡◌, Bool, cond, not, ◌&&◌, ◌||◌, List, eqb, Option, is_some, unwrap_or}
 use Rattle.frame.specs.declared.Header.{Header}
 use Rattle.entry.specs.Contents.{kind, IP, address, choice, vlan}
 use Rattle.entry.specs.Ip.{ip_allows}
 
--- "tagged: has a C-TAG; priority: none, or VLAN id 0; all: any"
-unfoldable pub choice_allows : ℕ → (tagged : Bool) → (vlan : ℕ) → Bool
-choice_allows choice tagged vlan = (eqb choice 1 && tagged) || (eqb choice 2 && (not tagged || eqb vlan 0)) || eqb choice 3
+-- "a frame without C-TAG has VLAN id 0"
+abbrev pub vlan_id : Option ℕ → ℕ
+vlan_id vlan = unwrap_or vlan 0
+
+-- "tagged: has a C-TAG; priority: none, or VLAN id 0; all: any", of the VLAN id of a frame's C-TAG
+unfoldable pub choice_allows : ℕ → Option ℕ → Bool
+choice_allows choice vlan =
+    (eqb choice 1 && is_some vlan) || (eqb choice 2 && (not (is_some vlan) || eqb (vlan_id vlan) 0)) || eqb choice 3
 
 -- "An entry matches if the address is equal, the choice allows the frame" .. "and its VLAN is 0 or equals the frame's": the test of every
 -- kind, with the frame's address that the kind asks for
 unfoldable pub allows : List ℕ → (asked : ℕ) → Header → Bool
 allows e asked h =
-    eqb (address e) asked && choice_allows (choice e) h.tagged h.vlan && (eqb (vlan e) 0 || eqb (vlan e) h.vlan)
+    eqb (address e) asked && choice_allows (choice e) h.vlan && (eqb (vlan e) 0 || eqb (vlan e) (vlan_id h.vlan))
 
 -- "Kind 1 (Null, by destination) and kind 2 (by source)"; kind 4 has a "destination address"
 unfoldable pub address_of : ℕ → Header → ℕ

@@ -1,7 +1,8 @@
 // The kinds of an entry, the octets of their bodies, and the ranges of what they hold.
 ghost use Rattle.entry.specs.Contents.{HasBody, Ranges, IpRanges, Unfit};
 
-// How many octets follow the kind; 0 for an octet that is no kind.
+// How many octets follow the kind; 0 for an octet that is no kind. A kind and a choice are no enums: any octet of a lent table may be
+// asked, and the walk tests it as it stands there.
 #[tactic(auto, unfolding(crate::specs::Contents::body_length))]
 pub fn body_length(kind: u8) -> usize
     ensures { HasBody kind result }

@@ -1,46 +1,47 @@
 // What an entry of kind 4 asks of a frame's payload (document 02, CR 1).
-ghost use Rattle.std.specs.Prelude.{◌≡◌};
-ghost use Rattle.entry.specs.Ip.{protocol_number, zero_or, dscp_fits, no_port, ports_fit, protocol_fits, ip_fits, ReadsPacket, AllowsIp};
+ghost use Rattle.std.specs.Prelude.{◌≡◌, ◌||◌, eqb};
+ghost use Rattle.entry.specs.Ip.{protocol_number, no_port, ports_fit, protocol_fits, ip_fits, ReadsPacket, AllowsIp};
 
-use ipv4::{Header, Reading};
+use ipv4::{Header, Unread};
 
 const IPV4: u16 = 0x0800;
 
 const NONE: u8 = 1;
 
+const ANY_DSCP: u32 = 255;
+
 // The packet that a payload behind this type begins with. Behind another type it is as a bad one.
 #[tactic(auto, unfolding(crate::specs::Ip::packet_of))]
-pub fn packet_of(kind: u16, payload: &[u8]) -> Reading
+pub fn packet_of(kind: u16, payload: &[u8]) -> Result<Header, Unread>
     ensures { ReadsPacket kind payload.now result }
 {
     if kind != IPV4 {
-        return Reading::Bad;
+        return Err(Unread::Bad);
     }
     ipv4::read(payload)
 }
 
 // Whether a payload that begins with this packet is one that the entry asks for.
-pub fn ip_allows(entry: &[u8], packet: Reading, payload: &[u8]) -> bool
+pub fn ip_allows(entry: &[u8], packet: Result<Header, Unread>, payload: &[u8]) -> bool
     ensures { AllowsIp entry.now packet payload.now result }
 {
     match packet {
-        Reading::Whole(ip) => ip_fits(entry, ip, payload),
-        Reading::Bad => false,
-        Reading::Cut => false,
+        Ok(ip) => ip_fits(entry, ip, payload),
+        Err(_) => false,
     }
 }
 
-#[tactic(auto, unfolding(crate::specs::Ip::ip_fits, crate::specs::Contents::source_ip, crate::specs::Contents::destination_ip, crate::specs::Contents::dscp))]
+#[tactic(auto, unfolding(crate::specs::Ip::ip_fits, crate::specs::Ip::zero_or, crate::specs::Ip::dscp_fits, crate::specs::Contents::source_ip, crate::specs::Contents::destination_ip, crate::specs::Contents::dscp))]
 fn ip_fits(entry: &[u8], ip: Header, payload: &[u8]) -> bool
     ensures { result ≡ ip_fits entry.now ip payload.now }
 {
-    if !zero_or(octets::word32(entry, 10), ip.source) {
+    if !fits(0, octets::word32(entry, 10), ip.source) {
         return false;
     }
-    if !zero_or(octets::word32(entry, 14), ip.destination) {
+    if !fits(0, octets::word32(entry, 14), ip.destination) {
         return false;
     }
-    if !dscp_fits(octets::octet(entry, 18), ip.dscp) {
+    if !fits(ANY_DSCP, octets::octet(entry, 18) as u32, ip.dscp as u32) {
         return false;
     }
     protocol_fits(entry, ip, payload)
@@ -83,7 +84,7 @@ fn protocol_number(next: u8) -> u8
     }
 }
 
-#[tactic(auto, unfolding(crate::specs::Ip::ports_fit))]
+#[tactic(auto, unfolding(crate::specs::Ip::ports_fit, crate::specs::Ip::zero_or))]
 fn ports_fit(source: u16, destination: u16, ip: Header, payload: &[u8]) -> bool
     ensures { result ≡ ports_fit source destination ip payload.now }
 {
@@ -96,27 +97,19 @@ fn ports_fit(source: u16, destination: u16, ip: Header, payload: &[u8]) -> bool
     if payload.len() - ip.ports < 4 {
         return false;
     }
-    if !zero_or(source as u32, octets::word16(payload, ip.ports) as u32) {
+    if !fits(0, source as u32, octets::word16(payload, ip.ports) as u32) {
         return false;
     }
-    zero_or(
+    fits(
+        0,
         destination as u32,
         octets::word16(payload, ip.ports + 2) as u32,
     )
 }
 
-// 255 asks for nothing.
-#[tactic(auto, unfolding(crate::specs::Ip::dscp_fits))]
-fn dscp_fits(asked: u8, is: u8) -> bool
-    ensures { result ≡ dscp_fits asked is }
+// One value asks for nothing, and every other for itself.
+fn fits(nothing: u32, asked: u32, is: u32) -> bool
+    ensures { result ≡ (eqb asked nothing || eqb asked is) }
 {
-    asked == 255 || asked == is
-}
-
-// Zero asks for nothing.
-#[tactic(auto, unfolding(crate::specs::Ip::zero_or))]
-fn zero_or(asked: u32, is: u32) -> bool
-    ensures { result ≡ zero_or asked is }
-{
-    asked == 0 || asked == is
+    asked == nothing || asked == is
 }

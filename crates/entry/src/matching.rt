@@ -18,17 +18,17 @@ pub fn address_of(kind: u8, h: Header) -> u64
     if kind == 2 { h.source } else { h.destination }
 }
 
-// Whether an entry that asks for this address allows the frame. Of a header that has VLAN id 0 where it has no C-TAG, as every frame that is
-// read has, this is document 01's test. The address comes first: it tells most entries apart.
+// Whether an entry that asks for this address allows a frame that has a C-TAG or has none, and this VLAN id, 0 without one. The two come
+// ready from the header, since a walk asks them of every entry. The address comes first: it tells most entries apart.
 #[tactic(auto, unfolding(crate::specs::Front::allows_by))]
-pub fn allows(front: u64, address: u64, vlan: u16, h: Header) -> bool
-    ensures { Allows front address vlan h result }
+pub fn allows(front: u64, address: u64, vlan: u16, tagged: bool, id: u16) -> bool
+    ensures { Allows front address vlan tagged id result }
 {
     if front / 256 % ADDRESSES != address {
         return false;
     }
-    if choice_fits((front % 256) as u8, h.tagged, h.vlan) {
-        return vlan == 0 || vlan == h.vlan;
+    if choice_fits((front % 256) as u8, tagged, id) {
+        return vlan == 0 || vlan == id;
     }
     false
 }

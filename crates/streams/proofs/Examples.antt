@@ -3,13 +3,14 @@ use Prim.Native.Nat.{ℕ, ◌+◌}
 use mathlib.Core.Path.{◌≡◌, refl}
 use mathlib.Core.List.{List, [], ◌∷◌, ◌++◌, map}
 use lib.ListN.{take, drop}
+use Rattle.std.specs.Prelude.{Option, Some, None, Result, Ok, Err}
 use Rattle.octets.specs.Number.{be16, be32, be48}
+use Rattle.octets.specs.declared.Refusal.{Refusal}
+use Rattle.octets.specs.declared.Refusal.TheVariants.{FrameShort, EntryKind, EntryCut, EntryRange}
 use Rattle.octets.specs.Checks.{verdict, ◌then◌}
 use Rattle.frame.specs.Layout.{destination, source, tagged, vlan, tag_place, announces, sequenced, announced}
 use Rattle.frame.specs.Layout.{number, kind_place, kind, payload_place}
-use Rattle.frame.specs.Reader.{length_checks, ctag_checks, sequence_checks, checks, header}
-use Rattle.streams.specs.declared.Found.{Found}
-use Rattle.streams.specs.declared.Found.TheVariants.{Stream, NoStream, Refused}
+use Rattle.frame.specs.Reader.{length_checks, ctag_checks, sequence_checks, checks, ctag, sequence_tag, header}
 use Rattle.ipv4.specs.Reader.{version, words, header_length, later, bad, cut, reading}
 use Rattle.ipv4.specs.Reader as ip
 use Rattle.entry.specs.Contents.{kind as kind_of, body_length, address, choice, vlan as vlan_of, handle, out_of_range, ip_out_of_range, unfit}
@@ -70,76 +71,83 @@ to = 10 ∷ 0 ∷ 0 ∷ 2 ∷ []
 both : List ℕ
 both = 1 ∷ 2 ∷ 3 ∷ 4 ∷ []
 
+-- a stream by its handle, and none
+stream : ℕ → Result (Option ℕ) Refusal
+stream handle = Ok (Some handle)
+
+no_stream : Result (Option ℕ) Refusal
+no_stream = Ok None
+
 record Row : Type 0 where
   table : List ℕ
   frame : List ℕ
-  answer : Found
+  answer : Result (Option ℕ) Refusal
 
-row : List ℕ → List ℕ → Found → Row
+row : List ℕ → List ℕ → Result (Option ℕ) Refusal → Row
 row t o r = record { table = t; frame = o; answer = r }
 
 rows : List Row
 rows =
-    row [] plain NoStream
-    ∷ row (entry 1 receiver 3 0 7) plain (Stream 7)
-    ∷ row (entry 1 sender 3 0 7) plain NoStream
-    ∷ row (entry 2 sender 3 0 7) plain (Stream 7)
-    ∷ row (entry 2 receiver 3 0 7) plain NoStream
-    ∷ row (entry 1 receiver 1 0 7) plain NoStream
-    ∷ row (entry 1 receiver 1 0 7) (in_vlan 5) (Stream 7)
-    ∷ row (entry 1 receiver 2 0 7) plain (Stream 7)
-    ∷ row (entry 1 receiver 2 0 7) (in_vlan 0) (Stream 7)
-    ∷ row (entry 1 receiver 2 0 7) (in_vlan 5) NoStream
-    ∷ row (entry 1 receiver 3 5 7) (in_vlan 5) (Stream 7)
-    ∷ row (entry 1 receiver 3 5 7) (in_vlan 6) NoStream
-    ∷ row (entry 1 receiver 3 5 7) plain NoStream
-    ∷ row (entry 1 receiver 3 0 7 ++ entry 2 sender 3 0 8) plain (Stream 7)
-    ∷ row (entry 3 receiver 3 0 7) plain (Refused 10)
-    ∷ row (entry 1 receiver 3 0 7 ++ (1 ∷ receiver)) plain (Refused 11)
-    ∷ row (entry 1 receiver 0 0 7) plain (Refused 12)
-    ∷ row (entry 1 receiver 4 0 7) plain (Refused 12)
-    ∷ row (entry 1 receiver 3 0 7 ++ (0 ∷ [])) short (Refused 10)
-    ∷ row (entry 1 receiver 3 0 7) short (Refused 1)
-    ∷ row (ip_entry any any 255 1 any) udp (Stream 9)
-    ∷ row (ip_entry from to 46 2 both) udp (Stream 9)
-    ∷ row (ip_entry to from 46 2 both) udp NoStream
-    ∷ row (ip_entry from to 184 2 both) udp (Refused 12)
-    ∷ row (ip_entry from to 0 2 both) udp NoStream
-    ∷ row (ip_entry from to 46 3 both) udp NoStream
-    ∷ row (ip_entry from to 46 2 (3 ∷ 4 ∷ 1 ∷ 2 ∷ [])) udp NoStream
-    ∷ row (ip_entry from to 46 2 (0 ∷ 0 ∷ 3 ∷ 4 ∷ [])) udp (Stream 9)
-    ∷ row (ip_entry from to 46 2 (1 ∷ 2 ∷ 0 ∷ 0 ∷ [])) udp (Stream 9)
-    ∷ row (ip_entry from to 46 1 (9 ∷ 9 ∷ 9 ∷ 9 ∷ [])) udp (Stream 9)
-    ∷ row (ip_entry from to 46 3 both) (packet 5 0 6 []) (Stream 9)
-    ∷ row (ip_entry from to 46 4 both) (packet 5 0 132 []) (Stream 9)
-    ∷ row (ip_entry from to 46 2 both) (packet 6 0 17 (7 ∷ 7 ∷ 7 ∷ 7 ∷ [])) (Stream 9)
-    ∷ row (ip_entry from to 46 2 both) (packet 5 1 17 []) NoStream
-    ∷ row (ip_entry from to 46 2 any) (packet 5 1 17 []) (Stream 9)
-    ∷ row (ip_entry any any 255 1 any) (packet 4 0 17 []) NoStream
-    ∷ row (ip_entry any any 255 1 any) (packet 37 0 17 []) NoStream
-    ∷ row (ip_entry any any 255 1 any) plain NoStream
-    ∷ row (ip_entry any any 255 1 any) (take 12 udp ++ (0x88 ∷ 0xB5 ∷ drop 14 udp)) NoStream
-    ∷ row (ip_entry from to 46 2 both) (take 37 udp) NoStream
-    ∷ row (ip_entry from to 46 2 any) (take 37 udp) (Stream 9)
-    ∷ row (ip_entry any any 255 1 any) (take 33 udp) NoStream
-    ∷ row (ip_entry any any 64 1 any) udp (Refused 12)
-    ∷ row (ip_entry any any 255 0 any) udp (Refused 12)
-    ∷ row (ip_entry any any 255 5 any) udp (Refused 12)
-    ∷ row (take 25 (ip_entry any any 255 1 any)) udp (Refused 11)
-    ∷ row (ip_entry_of 1 0 any any 255 1 any 9) udp NoStream
-    ∷ row (ip_entry_of 3 5 any any 255 1 any 9) udp NoStream
-    ∷ row (ip_entry any any 0 1 any ++ entry 1 receiver 3 0 7) udp (Stream 7)
-    ∷ row (ip_entry from to 46 3 both ++ ip_entry_of 3 0 from to 46 2 both 8) udp (Stream 8)
-    ∷ row (ip_entry from to 46 2 both ++ ip_entry_of 3 0 from to 46 2 both 8) udp (Stream 9)
-    ∷ row (ip_entry from to 46 3 both ++ (0 ∷ [])) udp (Refused 10)
+    row [] plain no_stream
+    ∷ row (entry 1 receiver 3 0 7) plain (stream 7)
+    ∷ row (entry 1 sender 3 0 7) plain no_stream
+    ∷ row (entry 2 sender 3 0 7) plain (stream 7)
+    ∷ row (entry 2 receiver 3 0 7) plain no_stream
+    ∷ row (entry 1 receiver 1 0 7) plain no_stream
+    ∷ row (entry 1 receiver 1 0 7) (in_vlan 5) (stream 7)
+    ∷ row (entry 1 receiver 2 0 7) plain (stream 7)
+    ∷ row (entry 1 receiver 2 0 7) (in_vlan 0) (stream 7)
+    ∷ row (entry 1 receiver 2 0 7) (in_vlan 5) no_stream
+    ∷ row (entry 1 receiver 3 5 7) (in_vlan 5) (stream 7)
+    ∷ row (entry 1 receiver 3 5 7) (in_vlan 6) no_stream
+    ∷ row (entry 1 receiver 3 5 7) plain no_stream
+    ∷ row (entry 1 receiver 3 0 7 ++ entry 2 sender 3 0 8) plain (stream 7)
+    ∷ row (entry 3 receiver 3 0 7) plain (Err EntryKind)
+    ∷ row (entry 1 receiver 3 0 7 ++ (1 ∷ receiver)) plain (Err EntryCut)
+    ∷ row (entry 1 receiver 0 0 7) plain (Err EntryRange)
+    ∷ row (entry 1 receiver 4 0 7) plain (Err EntryRange)
+    ∷ row (entry 1 receiver 3 0 7 ++ (0 ∷ [])) short (Err EntryKind)
+    ∷ row (entry 1 receiver 3 0 7) short (Err FrameShort)
+    ∷ row (ip_entry any any 255 1 any) udp (stream 9)
+    ∷ row (ip_entry from to 46 2 both) udp (stream 9)
+    ∷ row (ip_entry to from 46 2 both) udp no_stream
+    ∷ row (ip_entry from to 184 2 both) udp (Err EntryRange)
+    ∷ row (ip_entry from to 0 2 both) udp no_stream
+    ∷ row (ip_entry from to 46 3 both) udp no_stream
+    ∷ row (ip_entry from to 46 2 (3 ∷ 4 ∷ 1 ∷ 2 ∷ [])) udp no_stream
+    ∷ row (ip_entry from to 46 2 (0 ∷ 0 ∷ 3 ∷ 4 ∷ [])) udp (stream 9)
+    ∷ row (ip_entry from to 46 2 (1 ∷ 2 ∷ 0 ∷ 0 ∷ [])) udp (stream 9)
+    ∷ row (ip_entry from to 46 1 (9 ∷ 9 ∷ 9 ∷ 9 ∷ [])) udp (stream 9)
+    ∷ row (ip_entry from to 46 3 both) (packet 5 0 6 []) (stream 9)
+    ∷ row (ip_entry from to 46 4 both) (packet 5 0 132 []) (stream 9)
+    ∷ row (ip_entry from to 46 2 both) (packet 6 0 17 (7 ∷ 7 ∷ 7 ∷ 7 ∷ [])) (stream 9)
+    ∷ row (ip_entry from to 46 2 both) (packet 5 1 17 []) no_stream
+    ∷ row (ip_entry from to 46 2 any) (packet 5 1 17 []) (stream 9)
+    ∷ row (ip_entry any any 255 1 any) (packet 4 0 17 []) no_stream
+    ∷ row (ip_entry any any 255 1 any) (packet 37 0 17 []) no_stream
+    ∷ row (ip_entry any any 255 1 any) plain no_stream
+    ∷ row (ip_entry any any 255 1 any) (take 12 udp ++ (0x88 ∷ 0xB5 ∷ drop 14 udp)) no_stream
+    ∷ row (ip_entry from to 46 2 both) (take 37 udp) no_stream
+    ∷ row (ip_entry from to 46 2 any) (take 37 udp) (stream 9)
+    ∷ row (ip_entry any any 255 1 any) (take 33 udp) no_stream
+    ∷ row (ip_entry any any 64 1 any) udp (Err EntryRange)
+    ∷ row (ip_entry any any 255 0 any) udp (Err EntryRange)
+    ∷ row (ip_entry any any 255 5 any) udp (Err EntryRange)
+    ∷ row (take 25 (ip_entry any any 255 1 any)) udp (Err EntryCut)
+    ∷ row (ip_entry_of 1 0 any any 255 1 any 9) udp no_stream
+    ∷ row (ip_entry_of 3 5 any any 255 1 any 9) udp no_stream
+    ∷ row (ip_entry any any 0 1 any ++ entry 1 receiver 3 0 7) udp (stream 7)
+    ∷ row (ip_entry from to 46 3 both ++ ip_entry_of 3 0 from to 46 2 both 8) udp (stream 8)
+    ∷ row (ip_entry from to 46 2 both ++ ip_entry_of 3 0 from to 46 2 both 8) udp (stream 9)
+    ∷ row (ip_entry from to 46 3 both ++ (0 ∷ [])) udp (Err EntryKind)
     ∷ []
 
 as_listed : map (λ (x : Row). lookup_of x.table x.frame) rows ≡ map (λ (x : Row). x.answer) rows
-unfolding rows row entry plain in_vlan short receiver sender packet udp ip_entry_of ip_entry any from to both
+unfolding rows row stream no_stream entry plain in_vlan short receiver sender packet udp ip_entry_of ip_entry any from to both
     lookup_of table_verdict table_checks entry_checks entries entries_after body_length kind_of address choice vlan_of handle out_of_range
     ip_out_of_range unfit source_ip destination_ip dscp protocol source_port destination_port first_match
     matches allows choice_allows address_of ip_allows ip_fits protocol_fits ports_fit no_port dscp_fits zero_or protocol_number
     version words header_length later bad cut reading ip.dscp ip.header
     verdict ◌then◌ be16 be32 be48 checks length_checks ctag_checks sequence_checks
-    header destination source tagged vlan tag_place announces sequenced announced number kind_place kind payload_place
+    header ctag sequence_tag destination source tagged vlan tag_place announces sequenced announced number kind_place kind payload_place
 as_listed = refl

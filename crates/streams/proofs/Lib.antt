@@ -1,5 +1,6 @@
 pub mod Bodies
 pub mod Walked
+pub mod Told
 pub mod Checking
 pub mod Walking
 pub mod Answered

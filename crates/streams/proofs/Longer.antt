@@ -7,10 +7,11 @@ use mathlib.Core.List.{List, [], ◌∷◌}
 use lib.ListN.{length, get_or}
 use lib.Dec.{ltb, eqb}
 use borrow.Author.Tests.{leb-true, le-leb, ltb-false, le-ltb}
+use Rattle.std.specs.Prelude.{Ok, Err}
 use Rattle.octets.specs.Number.{be16, be32}
 use Rattle.octets.proofs.Bools.{by_cases, neither}
 use Rattle.frame.specs.declared.Header.{Header}
-use Rattle.ipv4.specs.declared.Reading.TheVariants.{Whole, Bad}
+use Rattle.ipv4.specs.declared.Unread.TheVariants.{Bad}
 use Rattle.ipv4.specs.Reader.{version, words, header_length, dscp, later, bad, cut, header, reading}
 use Rattle.entry.specs.Contents.{kind}
 use Rattle.entry.specs.Ip.{ports_fit, protocol_fits, ip_fits, ip_allows}
@@ -24,11 +25,11 @@ pub record Longer (p q : List ℕ) : Type 0 where
   pub octet : (k : ℕ) → k < length p → get_or q k 0 ≡ get_or p k 0
 
 -- how a bad header and a whole one read
-reading_bad : (o : List ℕ) → bad o ≡ true → reading o ≡ Bad
+reading_bad : (o : List ℕ) → bad o ≡ true → reading o ≡ Err Bad
 unfolding reading
 reading_bad o b = rw b refl
 
-reading_whole : (o : List ℕ) → bad o ≡ false → cut o ≡ false → reading o ≡ Whole (header o)
+reading_whole : (o : List ℕ) → bad o ≡ false → cut o ≡ false → reading o ≡ Ok (header o)
 unfolding reading
 reading_whole o b c = rw (b, c) refl
 

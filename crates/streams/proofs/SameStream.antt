@@ -7,13 +7,13 @@ use mathlib.Core.Bool.{true}
 use mathlib.Core.List.{List, [], ◌∷◌}
 use lib.ListN.{length, drop, length-drop}
 use lib.Seq.{ext_get_or, get_or-drop}
+use Rattle.std.specs.Prelude.{None, Ok}
 use Rattle.octets.specs.Checks.{good, verdict}
 use Rattle.octets.proofs.Bools.{by_cases}
 use Rattle.frame.specs.declared.Header.{Header}
-use Rattle.frame.specs.declared.Reading.TheVariants.{Frame}
 use Rattle.frame.specs.Layout.{tag_place, sequenced}
 use Rattle.frame.specs.Reader.{header, reading}
-use Rattle.frame.proofs.Accepted.{frame_good, good_frame, payload_tagged, payload_bare}
+use Rattle.frame.proofs.Accepted.{frame_good, good_frame, payload_tagged, payload_bare, starts_within}
 use Rattle.encoding.specs.declared.Encoding.{Encoding}
 use Rattle.encoding.specs.Encodings.{in_front, place, standing}
 use Rattle.tag.specs.Insertion.{inserted, insert_checks}
@@ -27,22 +27,13 @@ use Rattle.entry.specs.Matching.{allows, address_of, matches}
 use Rattle.streams.specs.Table.{entries, first_match, lookup_of}
 use Rattle.streams.specs.Walk.{walked}
 use Rattle.streams.specs.SameStream.{trailer_unread, SameWhenInserted, SameWhenRemoved}
-use Rattle.streams.proofs.Answered.{of_frame, walk_answers}
+use Rattle.streams.proofs.Answered.{walk_answers}
 use Rattle.streams.proofs.Longer.{Longer, same_match}
 
 -- a header with only what an entry asks of a frame
 asked : Header → Header
 asked h =
-    record {
-      destination = h.destination;
-      source = h.source;
-      tagged = h.tagged;
-      vlan = h.vlan;
-      announced = 0;
-      number = 0;
-      kind = h.kind;
-      payload = 0;
-    }
+    record { destination = h.destination; source = h.source; vlan = h.vlan; tag = None; kind = h.kind; payload = 0 }
 
 match_asked : (es : List (List ℕ)) (h : Header) (p : List ℕ) → first_match es h p ≡ first_match es (asked h) p
 unfolding first_match matches allows address_of asked
@@ -63,7 +54,7 @@ abbrev payload : Header → List ℕ → List ℕ
 payload h o = drop h.payload o
 
 -- two good frames in whose headers it is the same, and for whose payloads the table finds the same
-lookup_asked : (t o p : List ℕ) {h g : Header} → Frame h ≡ reading o → Frame g ≡ reading p → asked h ≡ asked g
+lookup_asked : (t o p : List ℕ) {h g : Header} → Ok h ≡ reading o → Ok g ≡ reading p → asked h ≡ asked g
     → first_match (entries t) g (payload h o) ≡ first_match (entries t) g (payload g p) → lookup_of t o ≡ lookup_of t p
 unfolding walked
 lookup_asked t o p {h} {g} e f same found =
@@ -102,7 +93,7 @@ module _ (t : List ℕ) (e : Encoding) (o : List ℕ) (n id room : ℕ) (accepte
   abbrev with_it : List ℕ
   with_it = inserted e o n id
 
-  found_inserted : Frame (header o) ≡ reading o → trailer_unread e t o ≡ true
+  found_inserted : Ok (header o) ≡ reading o → trailer_unread e t o ≡ true
       → first_match (entries t) (header o) (payload (with_tag e n (header o)) with_it)
       ≡ first_match (entries t) (header o) (payload (header o) o)
   unfolding with_tag retagged place trailer_unread
@@ -112,25 +103,25 @@ module _ (t : List ℕ) (e : Encoding) (o : List ℕ) (n id room : ℕ) (accepte
       (λ f.
       rw f
       (ap (first_match (entries t) (header o))
-      (moved o with_it (tag_place o) (header o).payload (rw f at s) (of_frame o was).within (omega (arith, tag_before o)))))
+      (moved o with_it (tag_place o) (header o).payload (rw f at s) (starts_within o was) (omega (arith, tag_before o)))))
       (λ f.
       rw f
       (same_match (payload (header o) o) (payload (header o) with_it)
-      (lengthened o with_it (length o) (header o).payload (rw f at s) (of_frame o was).within refl) (entries t) (header o) (rw f at u)))
+      (lengthened o with_it (length o) (header o).payload (rw f at s) (starts_within o was) refl) (entries t) (header o) (rw f at u)))
 
 -- and of one with six octets taken off
 module _ (t : List ℕ) (e : Encoding) (o : List ℕ) (room : ℕ) (accepted : verdict (remove_checks e o room) ≡ good) where
   abbrev without : List ℕ
   without = removed e o
 
-  found_removed : Frame (header o) ≡ reading o → Frame (without_tag e (header o)) ≡ reading without → trailer_unread e t without ≡ true
+  found_removed : Ok (header o) ≡ reading o → Ok (without_tag e (header o)) ≡ reading without → trailer_unread e t without ≡ true
       → first_match (entries t) (header o) (payload (without_tag e (header o)) without)
       ≡ first_match (entries t) (header o) (payload (header o) o)
   unfolding without_tag retagged standing place trailer_unread
   found_removed was is u =
       let s = unsplice e o room accepted in
       let own = (frame_good without is).1 in
-      let within = (of_frame without is).within in
+      let within = starts_within without is in
       by_cases (in_front e)
       (λ f.
       let behind = behind_tag o (there e o room accepted f) in

@@ -4,17 +4,22 @@ use native.Mathlib.Omega.{arith}
 use mathlib.Core.Path.{◌≡◌, refl, sym, ◌∙◌, ap}
 use mathlib.Core.Bool.{true, false}
 use mathlib.Core.List.{List, [], ◌∷◌}
+use lib.Dec.{ltb}
 use lib.ListN.{length, get_or, take, drop, length-take, length-drop, drop_of_length-le}
-use lib.Seq.{drop-cons, drop-drop, take_all, length-take-le}
-use borrow.Author.Tests.{lt-ltb, le-ltb, ltb-false, le-leb, lt-leb, leb-false, eq-eqb, ne_eqb, eqb-false}
+use lib.Seq.{drop-cons, drop-drop}
+use borrow.Author.Tests.{le-ltb, ltb-false, le-leb, lt-leb, leb-false, eq-eqb, ne_eqb, eqb-false}
+use Rattle.std.specs.Prelude.{Some, None}
+use Rattle.octets.specs.declared.Refusal.{Refusal}
+use Rattle.octets.specs.declared.Refusal.TheVariants.{EntryKind, TooManyEntries}
 use Rattle.octets.specs.Checks.{good, refuse, verdict, ◌then◌}
+use Rattle.octets.proofs.Bools.{ltb_same}
 use Rattle.octets.proofs.Order.{verdict_append, clear, both_good}
 use Rattle.frame.specs.declared.Header.{Header}
-use Rattle.streams.specs.declared.Found.TheVariants.{Stream, NoStream}
 use Rattle.entry.specs.Contents.{kind, body_length, handle, unfit}
 use Rattle.entry.specs.Matching.{matches}
 use Rattle.streams.specs.Table.{entries_after, entries, entry_checks, table_checks, first_match}
-use Rattle.streams.specs.Walk.{verdict_from}
+use Rattle.streams.specs.declared.table.Place.{Place}
+use Rattle.streams.specs.Walk.{behind, entry_verdict, verdict_from}
 
 -- octets that belong to the entry before are passed over
 passed_over : (left : ℕ) (t : List ℕ) → entries_after left t ≡ entries (drop left t)
@@ -31,98 +36,91 @@ entries_cons kind t = ap (λ (es : List (List ℕ)). (kind ∷ take (body_length
 abbrev pub entry_at : List ℕ → ℕ → ℕ → List ℕ
 entry_at t at body = take (suc body) (drop at t)
 
-module _ (t : List ℕ) (passed at : ℕ) where
+module _ (t : List ℕ) (place : Place) where
   -- behind the last entry
-  pub none_left : length t ≤ at → verdict_from t passed at ≡ good
+  pub none_left : length t ≤ place.at → verdict_from t place ≡ good
   unfolding verdict_from entries entries_after table_checks verdict
   none_left past = simp (drop_of_length-le t past)
 
-  pub none_matches : (h : Header) (p : List ℕ) → length t ≤ at → first_match (entries (drop at t)) h p ≡ NoStream
+  pub none_matches : (h : Header) (p : List ℕ) → length t ≤ place.at → first_match (entries (drop place.at t)) h p ≡ None
   unfolding entries entries_after first_match
   none_matches h p past = simp (drop_of_length-le t past)
 
   -- the entry at a place within the table
-  module _ (within : at < length t) {body : ℕ} (b : body ≡ body_length (get_or t at 0)) where
-    entries_at : entries (drop at t) ≡ entry_at t at body ∷ entries (drop (at + (1 + body)) t)
+  module _ (within : place.at < length t) {body : ℕ} (b : body ≡ body_length (get_or t place.at 0)) where
+    entries_at : entries (drop place.at t) ≡ entry_at t place.at body ∷ entries (drop (place.at + (1 + body)) t)
     entries_at =
-        let m : at + (1 + body) ≡ suc at + body = omega arith in
-        rw m (simp (drop-cons t at 0 within, entries_cons, drop-drop, b))
+        let m : place.at + (1 + body) ≡ suc place.at + body = omega arith in
+        rw m (simp (drop-cons t place.at 0 within, entries_cons, drop-drop, b))
 
-    kind_at : body_length (kind (entry_at t at body)) ≡ body
+    kind_at : body_length (kind (entry_at t place.at body)) ≡ body
     unfolding kind
-    kind_at = rw (drop-cons t at 0 within) (sym b)
+    kind_at = rw (drop-cons t place.at 0 within) (sym b)
 
     -- its own checks come first, then those of the entries behind it
-    checked_at : verdict_from t passed at ≡ verdict (entry_checks passed (entry_at t at body)) then verdict_from t (passed + 1) (at + (1 + body))
+    checked_at : verdict_from t place ≡ verdict (entry_checks place.passed (entry_at t place.at body)) then verdict_from t (behind place body)
     unfolding verdict_from table_checks
     checked_at = simp (entries_at, verdict_append)
 
-    decides : {n : ℕ} → verdict (entry_checks passed (entry_at t at body)) ≡ refuse n → verdict_from t passed at ≡ refuse n
+    decides : {n : Refusal} → verdict (entry_checks place.passed (entry_at t place.at body)) ≡ refuse n → verdict_from t place ≡ refuse n
     unfolding ◌then◌
     decides e = simp (checked_at, e)
 
-    pub too_many : 256 ≤ passed → verdict_from t passed at ≡ refuse 13
+    pub too_many : 256 ≤ place.passed → verdict_from t place ≡ refuse TooManyEntries
     unfolding entry_checks verdict
     too_many l = decides (simp (le-leb _ _ l))
 
-    module _ (few : passed < 256) where
-      pub unknown : body ≡ 0 → verdict_from t passed at ≡ refuse 10
+    module _ (few : place.passed < 256) where
+      pub unknown : body ≡ 0 → verdict_from t place ≡ refuse EntryKind
       unfolding entry_checks verdict
       unknown z = decides (simp (lt-leb _ _ few, kind_at, eq-eqb _ _ z))
 
+      -- one with a body: where its octets are there and in range, those behind it decide
       module _ (known : body ≡ 0 → ⊥) where
-        pub cut : length t - at < 1 + body → verdict_from t passed at ≡ refuse 11
-        unfolding entry_checks verdict
-        cut l =
-            let all = take_all (suc body) (drop at t) (omega (arith, length-drop at t)) in
-            let short = lt-ltb (length (entry_at t at body)) (1 + body) (rw all (omega (arith, length-drop at t))) in
-            decides (simp (lt-leb _ _ few, kind_at, ne_eqb _ _ known, short))
+        pub by_entry : verdict_from t place ≡ entry_verdict t place.at (suc body) then verdict_from t (behind place body)
+        unfolding entry_checks verdict entry_verdict
+        by_entry =
+            let long = length-take (suc body) (drop place.at t) in
+            let room = length-drop place.at t in
+            let cut : ltb (length (entry_at t place.at body)) (1 + body) ≡ ltb (length t - place.at) (suc body)
+            = ltb_same (λ l. omega arith) (λ l. omega arith) in
+            checked_at ∙ simp (lt-leb _ _ few, kind_at, ne_eqb _ _ known, cut)
 
-        -- all of it is there
-        module _ (whole : 1 + body ≤ length t - at) where
-          long : length (entry_at t at body) ≡ suc body
-          long = length-take-le (suc body) (drop at t) (omega (arith, length-drop at t))
-
-          pub ranged : unfit (entry_at t at body) ≡ true → verdict_from t passed at ≡ refuse 12
-          unfolding entry_checks verdict
-          ranged r =
-              decides (simp (lt-leb _ _ few, kind_at, ne_eqb _ _ known, le-ltb (length (entry_at t at body)) (1 + body) (omega (arith, long)), r))
-
-          pub passes : unfit (entry_at t at body) ≡ false → verdict_from t passed at ≡ verdict_from t (passed + 1) (at + (1 + body))
-          unfolding entry_checks verdict ◌then◌
-          passes r =
-              checked_at
-              ∙ simp (lt-leb _ _ few, kind_at, ne_eqb _ _ known, le-ltb (length (entry_at t at body)) (1 + body) (omega (arith, long)), r)
+        pub passes : suc body ≤ length t - place.at → unfit (entry_at t place.at body) ≡ false
+            → verdict_from t place ≡ verdict_from t (behind place body)
+        unfolding entry_verdict verdict ◌then◌
+        passes whole fit = by_entry ∙ simp (le-ltb _ _ whole, fit)
 
     -- what it gives, and where it gives nothing what those behind it give
     module _ (h : Header) (p : List ℕ) where
-      pub match_at : matches (entry_at t at body) h p ≡ true → first_match (entries (drop at t)) h p ≡ Stream (handle (entry_at t at body))
+      pub match_at : matches (entry_at t place.at body) h p ≡ true
+          → first_match (entries (drop place.at t)) h p ≡ Some (handle (entry_at t place.at body))
       unfolding first_match
       match_at m = simp (entries_at, m)
 
-      pub no_match_at : matches (entry_at t at body) h p ≡ false
-          → first_match (entries (drop at t)) h p ≡ first_match (entries (drop (at + (1 + body)) t)) h p
+      pub no_match_at : matches (entry_at t place.at body) h p ≡ false
+          → first_match (entries (drop place.at t)) h p ≡ first_match (entries (drop (place.at + (1 + body)) t)) h p
       unfolding first_match
       no_match_at m = simp (entries_at, m)
 
     -- what a good verdict tells of it
-    good_at : verdict_from t passed at ≡ good → verdict (entry_checks passed (entry_at t at body)) ≡ good
+    good_at : verdict_from t place ≡ good → verdict (entry_checks place.passed (entry_at t place.at body)) ≡ good
     good_at g = (both_good _ _ (sym checked_at ∙ g)).0
 
-    pub good_few : verdict_from t passed at ≡ good → passed < 256
+    pub good_few : verdict_from t place ≡ good → place.passed < 256
     unfolding entry_checks
-    good_few g = leb-false 256 passed (clear _ _ _ (good_at g)).0
+    good_few g = leb-false 256 place.passed (clear _ _ _ (good_at g)).0
 
-    pub good_known : verdict_from t passed at ≡ good → body ≡ 0 → ⊥
+    pub good_known : verdict_from t place ≡ good → body ≡ 0 → ⊥
     unfolding entry_checks
     good_known g z = eqb-false _ _ (clear _ _ _ (clear _ _ _ (good_at g)).1).0 (kind_at ∙ z)
 
-    pub good_whole : verdict_from t passed at ≡ good → 1 + body ≤ length t - at
+    pub good_whole : verdict_from t place ≡ good → 1 + body ≤ length t - place.at
     unfolding entry_checks
     good_whole g =
-        let whole = ltb-false (length (entry_at t at body)) (1 + body_length (kind (entry_at t at body))) (clear _ _ _ (clear _ _ _ (clear _ _ _ (good_at g)).1).1).0 in
-        omega (arith, whole, kind_at, length-take (suc body) (drop at t), length-drop at t)
+        let whole = ltb-false (length (entry_at t place.at body)) (1 + body_length (kind (entry_at t place.at body))) (clear _ _ _ (clear _ _ _ (clear _ _ _ (good_at g)).1).1).0 in
+        omega (arith, whole, kind_at, length-take (suc body) (drop place.at t), length-drop place.at t)
 
-    pub good_fit : verdict_from t passed at ≡ good → unfit (entry_at t at body) ≡ false
+    pub good_fit : verdict_from t place ≡ good → unfit (entry_at t place.at body) ≡ false
     unfolding entry_checks
     good_fit g = (clear _ _ _ (clear _ _ _ (clear _ _ _ (clear _ _ _ (good_at g)).1).1).1).0

@@ -6,17 +6,16 @@
 -- not know the encoding, which is the stream's own). So under PRP it holds where no entry of the table is of kind 4, or the last type is not
 -- 0800, or the payload without the trailer has the octets that its header says and four more. A frame of 60 octets has 36 or more of payload
 -- behind its tags, and a header without options and its ports have 24.
-use Rattle.std.specs.Prelude.{ℕ, ◌+◌, ◌≡◌, Bool, true, not, ◌&&◌, ◌||◌, List, [], ◌∷◌, length, take, drop, leb, eqb}
+use Rattle.std.specs.Prelude.{ℕ, ◌+◌, ◌≡◌, Bool, true, not, ◌&&◌, ◌||◌, List, [], ◌∷◌, length, take, drop, leb, eqb, Option, Result, Ok}
+use Rattle.octets.specs.declared.Refusal.{Refusal}
 use Rattle.frame.specs.Reader.{header}
 use Rattle.encoding.specs.declared.Encoding.{Encoding}
 use Rattle.encoding.specs.Encodings.{in_front}
-use Rattle.tag.specs.declared.Written.TheVariants.{Length}
 use Rattle.tag.specs.Insertion.{Inserts}
 use Rattle.tag.specs.Removal.{Removes, removed}
 use Rattle.ipv4.specs.Reader.{header_length}
 use Rattle.entry.specs.Contents.{kind, IP}
 use Rattle.entry.specs.Ip.{IPv4}
-use Rattle.streams.specs.declared.Found.{Found}
 use Rattle.streams.specs.Table.{entries, LooksUp}
 
 -- no entry is of kind 4
@@ -35,11 +34,11 @@ trailer_unread e t o = in_front e || none_ip (entries t) || uncut (header o).kin
 -- put in
 abbrev pub SameWhenInserted : Type 0
 SameWhenInserted =
-    (t : List ℕ) (e : Encoding) (o : List ℕ) (n id : ℕ) (out : List ℕ) (k : ℕ) (later : List ℕ) (r : Found)
-    → trailer_unread e t o ≡ true → Inserts e o n id out (Length k) later → LooksUp t (take k later) r → LooksUp t o r
+    (t : List ℕ) (e : Encoding) (o : List ℕ) (n id : ℕ) (out : List ℕ) (k : ℕ) (later : List ℕ) (r : Result (Option ℕ) Refusal)
+    → trailer_unread e t o ≡ true → Inserts e o n id out (Ok k) later → LooksUp t (take k later) r → LooksUp t o r
 
 -- taken off
 abbrev pub SameWhenRemoved : Type 0
 SameWhenRemoved =
-    (t : List ℕ) (e : Encoding) (o out : List ℕ) (k : ℕ) (later : List ℕ) (r : Found)
-    → trailer_unread e t (removed e o) ≡ true → Removes e o out (Length k) later → LooksUp t (take k later) r → LooksUp t o r
+    (t : List ℕ) (e : Encoding) (o out : List ℕ) (k : ℕ) (later : List ℕ) (r : Result (Option ℕ) Refusal)
+    → trailer_unread e t (removed e o) ≡ true → Removes e o out (Ok k) later → LooksUp t (take k later) r → LooksUp t o r

@@ -1,65 +1,54 @@
 -- The packet decides at each entry that asks for one.
-use Rattle.std.proofs.Common.{◌≡◌, ℕ, ◌+◌, ◌-◌, Bool, true, false, List, length, take, drop, refl, sym, ◌∙◌, arith}
+use Rattle.std.proofs.Common.{◌≡◌, ℕ, ◌+◌, ◌-◌, Bool, true, false, List, length, take, drop, sym, ◌∙◌, arith, Result}
 use Rattle.octets.proofs.Parts.{to_end}
 use Rattle.frame.specs.declared.Header.{Header}
-use Rattle.ipv4.specs.declared.Reading.{Reading}
+use Rattle.ipv4.specs.declared.Header as ip
+use Rattle.ipv4.specs.declared.Unread.{Unread}
 use Rattle.entry.specs.Ip.{fits_as, ip_allows, packet_of}
 use Rattle.entry.proofs.Packet.{read_once}
-use Rattle.streams.specs.declared.Found.TheVariants.{NoStream}
-use Rattle.streams.specs.Table.{found_by}
-use Rattle.streams.specs.Walk.{verdict_from, walked, matched_at, packet_at}
+use Rattle.streams.specs.declared.table.Place.{Place}
+use Rattle.streams.specs.Walk.{behind, walked, matched_at, packet_at}
 use Rattle.streams.proofs.table.among_packets.Goals as goal
 
-module _ (t o : List ℕ) (h : Header) (at : ℕ) where
-  abbrev fits : Bool
-  fits = ip_allows (take 26 (drop at t)) h.kind (drop h.payload o)
+-- the entry at a place and the payload, as the code lends them, with the packet that was read and what the entry says of it
+module _ (t o : List ℕ) (h : Header) (place : Place) {packet : Result ip.Header Unread} {r : Bool}
+    (read : packet ≡ packet_of h.kind (take (length o - h.payload) (drop h.payload o)))
+    (says : r ≡ fits_as (take (place.at + 26 - place.at) (drop place.at t)) packet (take (length o - h.payload) (drop h.payload o)))
+  where
+    fits : ip_allows (take 26 (drop place.at t)) h.kind (drop h.payload o) ≡ r
+    fits =
+        let m : place.at + 26 - place.at ≡ 26 = omega arith in
+        sym (read_once (take 26 (drop place.at t)) h.kind (drop h.payload o)) ∙ sym (rw (read, m, to_end h.payload o) at says)
 
-  -- the entry and the payload, as the code lends them, and the packet that was read
-  as_lent : {packet : Reading} {r b : Bool} → packet ≡ packet_of h.kind (take (length o - h.payload) (drop h.payload o))
-      → r ≡ fits_as (take (at + 26 - at) (drop at t)) packet (take (length o - h.payload) (drop h.payload o)) → r ≡ b → fits ≡ b
-  as_lent {packet} read e is =
-      let m : at + 26 - at ≡ 26 = omega arith in
-      sym (read_once (take 26 (drop at t)) h.kind (drop h.payload o)) ∙ sym (rw (read, m, to_end h.payload o) at e) ∙ is
+    takes-it : r ≡ true → matched_at t place 25 ≡ packet_at t h (drop h.payload o) place
+    unfolding packet_at
+    takes-it e = simp (fits, e)
 
-  with-packet : fits ≡ true → (before : ℕ) → matched_at t before at 25 ≡ packet_at t h (drop h.payload o) before at
-  unfolding packet_at
-  with-packet e before = rw e refl
-
-  without : fits ≡ false → (before : ℕ) → walked t h (drop h.payload o) (before + 1) (at + 26) ≡ packet_at t h (drop h.payload o) before at
-  unfolding packet_at
-  without e before = rw e refl
+    passes-it : r ≡ false → {next : Place} → next ≡ behind place 25
+        → walked t h (drop h.payload o) next ≡ packet_at t h (drop h.payload o) place
+    unfolding packet_at
+    passes-it e n = simp (fits, e, n)
 
 -- the packet is the one that the entry asks for
 pub returns-then-ip_allows : goal.returns-then-ip_allows
 returns-then-ip_allows c =
-    let t = c.args.table.now in
-    let o = c.args.frame.now in
-    let found : c.matched.result ≡ matched_at t c.loop-h.passed c.loop-h.at 25 = c.matched.ensures in
-    found
-    ∙ with-packet t o c.args.h _ (as_lent t o c.args.h c.loop-h.at c.packet_of-packet.ensures c.ip_allows.ensures c.if-ip_allows.true) _
-    ∙ c.loop-h.invariant.1
+    let it = takes-it c.args.table.now _ _ _ c.packet_of-packet.ensures c.ip_allows.ensures c.if-ip_allows.true in
+    c.matched.ensures ∙ it ∙ c.loop-payload.invariant.1
 
 -- it is not, and the walk goes on behind the entry: to one of kind 1 or 2
 pub returns-in-Match : goal.returns-in-Match
 returns-in-Match c =
-    let t = c.args.table.now in
-    let o = c.args.frame.now in
-    let other = as_lent t o c.args.h c.loop-h.at c.packet_of-packet.ensures c.ip_allows.ensures c.if-ip_allows.false in
-    c.matched-in-Match.ensures ∙ c.in-Match.ensures.comes _ ∙ without t o c.args.h _ other _ ∙ c.loop-h.invariant.1
+    let it = passes-it c.args.table.now _ _ _ c.packet_of-packet.ensures c.ip_allows.ensures c.if-ip_allows.false c.behind.ensures in
+    c.matched-in-Match.ensures ∙ c.in-Match.ensures.comes _ ∙ it ∙ c.loop-payload.invariant.1
 
 -- to another of kind 4
-pub loop-h-preserved : goal.loop-h-preserved
-loop-h-preserved c =
-    let t = c.args.table.now in
-    let o = c.args.frame.now in
-    let other = as_lent t o c.args.h c.loop-h.at c.packet_of-packet.ensures c.ip_allows.ensures c.if-ip_allows.false in
-    (c.in-Packet.ensures.stops.1, c.in-Packet.ensures.comes _ ∙ without t o c.args.h _ other _ ∙ c.loop-h.invariant.1)
+pub loop-payload-preserved : goal.loop-payload-preserved
+loop-payload-preserved c =
+    let it = passes-it c.args.table.now _ _ _ c.packet_of-packet.ensures c.ip_allows.ensures c.if-ip_allows.false c.behind.ensures in
+    (c.in-Packet.ensures.stops.1, c.in-Packet.ensures.comes _ ∙ it ∙ c.loop-payload.invariant.1)
 
 -- to a fault, or the end
 pub returns-in-Rest : goal.returns-in-Rest
 returns-in-Rest c =
-    let t = c.args.table.now in
-    let o = c.args.frame.now in
-    let other = as_lent t o c.args.h c.loop-h.at c.packet_of-packet.ensures c.ip_allows.ensures c.if-ip_allows.false in
-    let none : c.settled.result ≡ found_by (verdict_from t c.in-Rest.before c.in-Rest.next) NoStream = c.settled.ensures in
-    none ∙ c.in-Rest.ensures.comes _ ∙ without t o c.args.h _ other _ ∙ c.loop-h.invariant.1
+    let it = passes-it c.args.table.now _ _ _ c.packet_of-packet.ensures c.ip_allows.ensures c.if-ip_allows.false c.behind.ensures in
+    c.settled.ensures ∙ c.in-Rest.ensures.comes _ ∙ it ∙ c.loop-payload.invariant.1

@@ -3,11 +3,11 @@ use Rattle.streams.specs.Walk.{packet_at, There}
 use Rattle.streams.proofs.table.among_packets.Given as goal
 
 -- what comes of the entry at `at` comes of the first one
-abbrev pub invariant-loop-h : goal.invariant-loop-h
-invariant-loop-h l =
-    There l.table l.at l.passed 25
-    × (packet_at l.table l.h (drop l.h.payload l.frame) l.passed l.at ≡ packet_at l.table l.h (drop l.h.payload l.frame) l.count l.from)
+abbrev pub invariant-loop-payload : goal.invariant-loop-payload
+invariant-loop-payload l =
+    There l.table l.place 25
+    × (packet_at l.table l.h (drop l.h.payload l.frame) l.place ≡ packet_at l.table l.h (drop l.h.payload l.frame) l.fn.from)
 
 -- what is left of the table
-abbrev pub decreases-loop-h : goal.decreases-loop-h
-decreases-loop-h l = length l.table - l.at
+abbrev pub decreases-loop-payload : goal.decreases-loop-payload
+decreases-loop-payload l = length l.table - l.place.at

@@ -4,7 +4,7 @@ use Rattle.streams.proofs.table.checked.Given as goal
 
 -- the entries from `at` on decide, with `passed` before them
 abbrev pub invariant-loop-at : goal.invariant-loop-at
-invariant-loop-at l = verdict_from l.table l.count l.from ≡ verdict_from l.table l.passed l.at
+invariant-loop-at l = verdict_from l.table l.fn.from ≡ verdict_from l.table (record { at = l.at; passed = l.passed })
 
 -- what is left of the table
 abbrev pub decreases-loop-at : goal.decreases-loop-at
