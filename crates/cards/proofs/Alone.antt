@@ -8,6 +8,7 @@ use native.Mathlib.Omega.{arith}
 use lib.ListN.{length, get_or, take, drop}
 use lib.Seq.{get_or-take, get_or-drop, length-take-le}
 use lib.Dec.{lit<}
+use Rattle.std.specs.Prelude.{Ok}
 use Rattle.octets.specs.Number.{be16, be32}
 use Rattle.cards.specs.Payload.{next_kind, known, octets_after, of_kind, next_card, width, is_card, card_part}
 use Rattle.cards.specs.declared.Card.TheVariants.{FlushOrder, RawCode, Millivolts}
@@ -27,7 +28,7 @@ module _ (o : List ℕ) where
 
   -- the octets of a kind, by themselves, are a whole card of that kind
   alone : (k : ℕ) → next_kind o ≡ k → known k ≡ true → suc (octets_after k) ≤ length o
-      → let front = take (suc (octets_after k)) o in of_kind k (drop 1 front) ≡ next_card front
+      → let front = take (suc (octets_after k)) o in Ok (of_kind k (drop 1 front)) ≡ next_card front
   alone k at is long =
       let n = suc (octets_after k) in
       let same : next_kind (take n o) ≡ k = first_octet (take n o) ∙ get_or-take n o 0 0 (omega arith) ∙ sym (first_octet o) ∙ at in
@@ -39,6 +40,6 @@ module _ (o : List ℕ) where
       (λ e. absurd (true≢false (sym e)))
       (λ e. absurd (true≢false (sym e)))
       (λ e. absurd (true≢false (sym e)))
-      (λ at long e. sym (alone 0x10 at refl long) ∙ ap FlushOrder kept32)
-      (λ at long e. sym (alone 0x11 at refl long) ∙ ap RawCode kept16)
-      (λ at long e. sym (alone 0x12 at refl long) ∙ ap Millivolts kept16)
+      (λ at long e. sym (alone 0x10 at refl long) ∙ ap (λ (n : ℕ). Ok (FlushOrder n)) kept32)
+      (λ at long e. sym (alone 0x11 at refl long) ∙ ap (λ (n : ℕ). Ok (RawCode n)) kept16)
+      (λ at long e. sym (alone 0x12 at refl long) ∙ ap (λ (n : ℕ). Ok (Millivolts n)) kept16)

@@ -2,11 +2,13 @@
 use mathlib.Core.Path.{◌≡◌}
 use mathlib.Core.List.{List}
 use Prim.Native.Nat.{ℕ}
+use Rattle.std.specs.Prelude.{Result}
+use Rattle.octets.specs.declared.Refusal.{Refusal}
 use Rattle.octets.proofs.Unique.{one, handed_one}
 use Rattle.cards.specs.Payload.{Next, HandsCard, HandsRest}
 use Rattle.cards.specs.declared.Card.{Card}
 
-pub next_one : (o : List ℕ) (r s : Card) → Next o r → Next o s → r ≡ s
+pub next_one : (o : List ℕ) (r s : Result Card Refusal) → Next o r → Next o s → r ≡ s
 next_one o r s = one
 
 module _ (o : List ℕ) {at : ℕ × ℕ} {p p' : List ℕ} {q q' : ℕ × ℕ} where

@@ -1,13 +1,15 @@
 -- A card taken, and a walk, mean what `specs/Walk` says. Assumes nothing.
 use Prim.Native.Nat.{ℕ, zero, suc, ◌≤◌, ◌<◌}
 use mathlib.Core.Path.{◌≡◌, refl, sym, ap, ap₂, ◌∙◌}
-use mathlib.Core.Bool.{Bool, true, false, cond}
+use mathlib.Core.Bool.{Bool, true, false, cond, false≢true}
 use mathlib.Core.List.{List, ◌∷◌, ◌++◌, append_assoc, flatten, map}
 use native.Mathlib.Omega.{arith}
 use lib.ListN.{length, take-append-drop, length-drop}
 use borrow.Author.Tests.{ltb-true, le-ltb}
+use Rattle.std.specs.Prelude.{Result, Ok, Err}
+use Rattle.octets.specs.declared.Refusal.{Refusal}
 use Rattle.cards.specs.Payload.{next_card, width, is_card, card_part, rest_part}
-use Rattle.cards.specs.Walk.{CardsTaken, Walk, walk, walk_in, stop, step, WalksMean}
+use Rattle.cards.specs.Walk.{CardsTaken, Walk, walk, walk_in, stop, the_card, step, WalksMean}
 use Rattle.cards.specs.declared.Card.{Card}
 use Rattle.octets.proofs.Bools.{either}
 use Rattle.cards.proofs.Width.{width_fits}
@@ -62,6 +64,11 @@ along P stops steps o = go (length o) o (omega arith)
         (λ card. let l = (cards_taken o card).shorter in steps o (walk_in n (rest_part o)) card (go n (rest_part o) (omega arith)))
         (stops o)
 
+-- an answer that is a card, before other cards
+one_more : (r : Result Card Refusal) → is_card r ≡ true → (cs : List Card) → map Ok (the_card r ++ cs) ≡ r ∷ map Ok cs
+one_more (Ok c) card cs = refl
+one_more (Err k) card cs = absurd (false≢true card)
+
 pub walks_mean : WalksMean
 unfolding walk flatten
 walks_mean o =
@@ -77,8 +84,10 @@ walks_mean o =
           append_assoc (card_part o) (flatten w.parts) w.left ∙ ap (λ (l : List ℕ). card_part o ++ l) h ∙ (cards_taken o card).whole)
           o;
       own =
-          along (λ o w. map next_card w.parts ≡ w.cards) (λ o none. refl)
-          (λ o w card h. ap₂ (λ (c : Card) (cs : List Card). c ∷ cs) (own_card o card) h)
+          along (λ o w. map next_card w.parts ≡ map Ok w.cards) (λ o none. refl)
+          (λ o w card h.
+          ap₂ (λ (r : Result Card Refusal) (rs : List (Result Card Refusal)). r ∷ rs) (own_card o card) h
+          ∙ sym (one_more (next_card o) card w.cards))
           o;
       last = along (λ o w. w.verdict ≡ next_card w.left) (λ o none. refl) (λ o w card h. h) o;
       ends = along (λ o w. is_card w.verdict ≡ false) (λ o none. none) (λ o w card h. h) o;

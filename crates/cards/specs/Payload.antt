@@ -1,11 +1,13 @@
 -- Document 01, "Charge cards": what stands next in a payload, the card as a part of it, and the rest after that card.
 -- Octets are a list of numbers. Assumes nothing.
-use Rattle.std.specs.Prelude.{ℕ, ◌≡◌, Bool, cond, not, ◌||◌, List, [], ◌∷◌, length, take, drop, ltb, eqb}
+use Rattle.std.specs.Prelude.{ℕ, ◌≡◌, Bool, cond, not, ◌||◌, List, [], ◌∷◌, length, take, drop, ltb, eqb, Result, Ok, Err}
 use Rattle.octets.specs.Number.{be16, be32}
 use Rattle.octets.specs.Part.{HandedBack}
-use Rattle.octets.specs.Checks.{Check, ◌⇒◌, Verdict, good, refuse, verdict}
+use Rattle.octets.specs.declared.Refusal.{Refusal}
+use Rattle.octets.specs.declared.Refusal.TheVariants.{CardKind, CardCut}
+use Rattle.octets.specs.Checks.{Check, ◌⇒◌, verdict, answered}
 use Rattle.cards.specs.declared.Card.{Card}
-use Rattle.cards.specs.declared.Card.TheVariants.{FlushOrder, RawCode, Millivolts, End, Refused}
+use Rattle.cards.specs.declared.Card.TheVariants.{FlushOrder, RawCode, Millivolts, End}
 
 -- "an empty payload or 00 is "end"": an empty payload has the kind 00
 abbrev pub next_kind : List ℕ → ℕ
@@ -35,31 +37,26 @@ standing o = of_kind (next_kind o) (drop 1 o)
 -- "then 20, then 21": "card kind; card cut"
 abbrev pub card_checks : List ℕ → List Check
 card_checks o =
-    not (known (next_kind o)) ⇒ 20
-    ∷ ltb (length (drop 1 o)) (octets_after (next_kind o)) ⇒ 21
+    not (known (next_kind o)) ⇒ CardKind
+    ∷ ltb (length (drop 1 o)) (octets_after (next_kind o)) ⇒ CardCut
     ∷ []
 
--- "It returns the number alone": a card that no check refuses, or the refusal
-abbrev pub judged : Verdict → Card → Card
-judged good c = c
-judged (refuse n) c = Refused n
-
--- "The next card"
-unfoldable pub next_card : List ℕ → Card
+-- "The next card": what stands next where no check refuses it, or the refusal
+unfoldable pub next_card : List ℕ → Result Card Refusal
 unfolding verdict
-next_card o = judged (verdict (card_checks o)) (standing o)
+next_card o = answered (verdict (card_checks o)) (standing o)
 
 -- how many octets a card takes, its kind with them; an end and a refusal take none
-abbrev pub width : Card → ℕ
-width (FlushOrder blocks) = 5
-width (RawCode code) = 3
-width (Millivolts count) = 3
-width End = 0
-width (Refused number) = 0
+abbrev pub width : Result Card Refusal → ℕ
+width (Ok (FlushOrder blocks)) = 5
+width (Ok (RawCode code)) = 3
+width (Ok (Millivolts count)) = 3
+width (Ok End) = 0
+width (Err refusal) = 0
 
 -- neither an end nor a refusal
-abbrev pub is_card : Card → Bool
-is_card c = ltb 0 (width c)
+abbrev pub is_card : Result Card Refusal → Bool
+is_card r = ltb 0 (width r)
 
 -- "The next card comes back as a part of the caller's payload, with the rest after it"; "A call that hands back a part gives an empty part
 -- on a refusal or end"
@@ -71,7 +68,7 @@ abbrev pub rest_part : List ℕ → List ℕ
 rest_part o = cond (is_card (next_card o)) (drop (width (next_card o)) o) []
 
 -- the promises: of `next`
-abbrev pub Next : List ℕ → Card → Type 0
+abbrev pub Next : List ℕ → Result Card Refusal → Type 0
 Next o r = r ≡ next_card o
 
 -- of `part`: the payload and the part, each with where it lies

@@ -3,37 +3,20 @@ ghost use Rattle.std.specs.Prelude.{◌≡◌};
 ghost use Rattle.cards.specs.Payload.{Next, HandsCard, HandsRest, next_card, width};
 
 use crate::Card;
+use octets::Refusal;
 
 // What stands next. An empty payload reads as 00, an end.
-#[tactic(auto, using(crate::proofs::Kind::read_end, crate::proofs::Kind::read_cut_order, crate::proofs::Kind::read_cut_code, crate::proofs::Kind::read_cut_millivolts, crate::proofs::Kind::read_other, crate::proofs::Kind::read_order, crate::proofs::Kind::read_code, crate::proofs::Kind::read_millivolts))]
-pub fn next(payload: &[u8]) -> Card
+#[tactic(auto, using(crate::proofs::Kind::of_next))]
+pub fn next(payload: &[u8]) -> Result<Card, Refusal>
     ensures { Next payload.now result }
 {
-    let kind = octets::octet(payload, 0);
-    match kind {
-        0x00 => Card::End,
-        0x10 => {
-            if payload.len() < 5 {
-                Card::Refused(21)
-            } else {
-                Card::FlushOrder(octets::word32(payload, 1))
-            }
-        }
-        0x11 => {
-            if payload.len() < 3 {
-                Card::Refused(21)
-            } else {
-                Card::RawCode(octets::word16(payload, 1))
-            }
-        }
-        0x12 => {
-            if payload.len() < 3 {
-                Card::Refused(21)
-            } else {
-                Card::Millivolts(octets::word16(payload, 1))
-            }
-        }
-        _ => Card::Refused(20),
+    match octets::octet(payload, 0) {
+        0x00 => Ok(Card::End),
+        0x10 if 5 <= payload.len() => Ok(Card::FlushOrder(octets::word32(payload, 1))),
+        0x11 if 3 <= payload.len() => Ok(Card::RawCode(octets::word16(payload, 1))),
+        0x12 if 3 <= payload.len() => Ok(Card::Millivolts(octets::word16(payload, 1))),
+        0x10 | 0x11 | 0x12 => Err(Refusal::CardCut),
+        _ => Err(Refusal::CardKind),
     }
 }
 
@@ -41,11 +24,9 @@ fn width_of(payload: &[u8]) -> usize
     ensures { result ≡ width (next_card payload.now) }
 {
     match next(payload) {
-        Card::FlushOrder(_) => 5,
-        Card::RawCode(_) => 3,
-        Card::Millivolts(_) => 3,
-        Card::End => 0,
-        Card::Refused(_) => 0,
+        Ok(Card::FlushOrder(_)) => 5,
+        Ok(Card::RawCode(_) | Card::Millivolts(_)) => 3,
+        Ok(Card::End) | Err(_) => 0,
     }
 }
 

@@ -1,24 +1,26 @@
 -- Document 01, "Charge cards", for C: what the calls answer and write, by the definitions of `cards`. Assumes nothing.
-use Rattle.std.specs.Prelude.{ℕ, ◌≡◌, List, length}
+use Rattle.std.specs.Prelude.{ℕ, ◌≡◌, List, length, Result, Ok, Err}
+use Rattle.octets.specs.declared.Refusal.{Refusal}
+use Rattle.octets.specs.Refusals.{number}
 use Rattle.cards.specs.declared.Card.{Card}
 use Rattle.cards.specs.declared.Card.TheVariants as card
 use Rattle.cards.specs.Payload.{next_card, card_part, rest_part}
 
 -- a card, an end, or the refusal, as a number
-abbrev pub of_card : Card → ℕ
-of_card (card.FlushOrder blocks) = 100
-of_card (card.RawCode code) = 101
-of_card (card.Millivolts count) = 102
-of_card card.End = 103
-of_card (card.Refused n) = n
+abbrev pub of_card : Result Card Refusal → ℕ
+of_card (Ok (card.FlushOrder blocks)) = 100
+of_card (Ok (card.RawCode code)) = 101
+of_card (Ok (card.Millivolts count)) = 102
+of_card (Ok card.End) = 103
+of_card (Err refusal) = number refusal
 
 -- the lent value after a card: "blocks asked", the raw code or the millivolts; an end and a refusal leave it
-abbrev pub value_by : Card → ℕ → ℕ
-value_by (card.FlushOrder blocks) before = blocks
-value_by (card.RawCode code) before = code
-value_by (card.Millivolts count) before = count
-value_by card.End before = before
-value_by (card.Refused n) before = before
+abbrev pub value_by : Result Card Refusal → ℕ → ℕ
+value_by (Ok (card.FlushOrder blocks)) before = blocks
+value_by (Ok (card.RawCode code)) before = code
+value_by (Ok (card.Millivolts count)) before = count
+value_by (Ok card.End) before = before
+value_by (Err refusal) before = before
 
 -- the promises: of `ahz_card`
 pub record NextTo (o : List ℕ) (before r after : ℕ) : Type 0 where

@@ -9,20 +9,20 @@ pub extern "C" fn ahz_card(payload: &[u8], value: &mut u32) -> u8
     ensures { NextTo payload.now value.old result value.new }
 {
     match cards::next(payload) {
-        Card::FlushOrder(blocks) => {
+        Ok(Card::FlushOrder(blocks)) => {
             *value = blocks;
             100
         }
-        Card::RawCode(code) => {
+        Ok(Card::RawCode(code)) => {
             *value = code as u32;
             101
         }
-        Card::Millivolts(count) => {
+        Ok(Card::Millivolts(count)) => {
             *value = count as u32;
             102
         }
-        Card::End => 103,
-        Card::Refused(no) => no,
+        Ok(Card::End) => 103,
+        Err(refusal) => refusal.number(),
     }
 }
 

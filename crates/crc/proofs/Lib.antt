@@ -5,6 +5,7 @@ pub mod Numbers
 pub mod LowFirst
 pub mod Sliced
 pub mod Register
+pub mod Eights
 pub mod OfTable
 pub mod Examples
 pub mod Damage

@@ -6,9 +6,10 @@ use mathlib.Core.Path.{◌≡◌, refl, sym, ap, ap₂, ◌∙◌}
 use mathlib.Core.Bool.{Bool, not}
 use mathlib.Core.List.{List, [], ◌∷◌, ◌++◌, append_assoc, map}
 use lib.ListN.{length, take, drop, get_or, length-append, length-map, take-append-drop}
-use lib.Seq.{take-add, take_all}
+use lib.Seq.{take-add}
 use lib.Bits.{bit_xor, xor_shr, xor_zero_r, xor_lt}
 use lib.Pow.{shr_le, pow_mono}
+use Rattle.octets.proofs.Parts.{to_end}
 use Rattle.crc.specs.Bits.{bits_of, number_of, sent, zeros, ones, ◌⊕◌}
 use Rattle.crc.specs.Division.{divide, remainder, crc}
 use Rattle.crc.specs.Tables.{steps, table, left, through, Low}
@@ -91,11 +92,12 @@ unfolding through
 through_below c o = rw (length_left (bits_of 32 c) (sent o) (length_bits 32 c)) at (number_below (left (bits_of 32 c) (sent o)))
 
 -- no octets
-pub through_none : (c : ℕ) → c < 2 ^ 32 → through c [] ≡ c
+pub none_through : (c : ℕ) → c < 2 ^ 32 → c ≡ through c []
 unfolding through left divide sent
-through_none c p =
-    ap number_of (sum_comm (bits_of 32 c) (zeros 32) ∙ zeros_sum 32 (bits_of 32 c) (omega (arith, length_bits 32 c)))
-    ∙ number_bits 32 c ∙ mod-eq_of_lt p
+none_through c p =
+    sym
+    (ap number_of (sum_comm (bits_of 32 c) (zeros 32) ∙ zeros_sum 32 (bits_of 32 c) (omega (arith, length_bits 32 c)))
+    ∙ number_bits 32 c ∙ mod-eq_of_lt p)
 
 -- so many octets more, as a number
 through_more : (n c : ℕ) (o : List ℕ) (at x : ℕ) → x < 2 ^ (8 * n) → Low n o at x
@@ -108,18 +110,18 @@ through_more n c o at x p q =
     ∙ word_through (8 * n) before x (through_below c (take at o)) p
 
 pub nothing_through : (c : ℕ) (o : List ℕ) → c < 2 ^ 32 → length o ≡ 0 → c ≡ through c o
-nothing_through c [] p e = sym (through_none c p)
+nothing_through c [] p e = none_through c p
 nothing_through c (x ∷ o) p e = absurd (omega arith)
 
 -- one octet more, by the table
-pub octet_more : (c : ℕ) (o : List ℕ) (at : ℕ) → at < length o → get_or o at 0 < 256
-    → let before = through c (take at o) in
-    bit_xor (get_or table (bit_xor before (get_or o at 0) % 256) 0) (before / 256) ≡ through c (take (at + 1) o)
-octet_more c o at p q =
-    let before = through c (take at o) in
-    let word = bit_xor before (get_or o at 0) in
-    ap (λ (n : ℕ). bit_xor n (before / 256)) (eight_steps (word % 256) (omega arith) ∙ steps_low 8 word)
-    ∙ sym (through_more 1 c o at (get_or o at 0) q (low_one o at p))
+pub octet_more : (words : List ℕ) (c past : ℕ) (o : List ℕ) (at : ℕ)
+    → words ≡ table → past ≡ through c (take at o) → at < length o → get_or o at 0 < 256
+    → bit_xor (get_or words (bit_xor past (get_or o at 0) % 256) 0) (past / 256) ≡ through c (take (at + 1) o)
+octet_more words c past o at w e p q =
+    let word = bit_xor (through c (take at o)) (get_or o at 0) in
+    rw (w, e)
+    (ap (λ (n : ℕ). bit_xor n (through c (take at o) / 256)) (eight_steps (word % 256) (omega arith) ∙ steps_low 8 word)
+    ∙ sym (through_more 1 c o at (get_or o at 0) q (low_one o at p)))
 
 -- four octets or more, by all their steps: no bit of the register before them is left
 pub word_more : (n c : ℕ) (o : List ℕ) (at x : ℕ) → 4 ≤ n → x < 2 ^ (8 * n) → Low n o at x
@@ -131,21 +133,15 @@ word_more n c o at x h p q =
     let all = steps (8 * n) (bit_xor before x) in
     sym (through_more n c o at x p q ∙ ap (bit_xor all) none ∙ xor_zero_r all)
 
--- four octets at the end
-pub four_left : (c : ℕ) (o : List ℕ) (at x past : ℕ) → past ≡ through c (take at o) → length o ≤ at + 4 → x < 2 ^ 32 → Low 4 o at x
-    → steps 32 (bit_xor past x) ≡ through c o
-four_left c o at x past e h below low =
-    ap (λ (n : ℕ). steps 32 (bit_xor n x)) e
-    ∙ word_more 4 c o at x (omega arith) below low
-    ∙ ap (through c) (take_all (at + 4) o h)
-
 -- the check is what the register lacks of all ones, having begun with them; in two parts, since the octets go through it so
-pub in_two_parts : (o : List ℕ) (n : ℕ) → 4294967295 - through (through 4294967295 (take n o)) (drop n o) ≡ crc o
+pub in_two_parts : (o : List ℕ) (n first past : ℕ) → first ≡ through 4294967295 (take n o)
+    → past ≡ through first (take (length o - n) (drop n o)) → 4294967295 - past ≡ crc o
 unfolding bits_of crc remainder left through
-in_two_parts o n =
+in_two_parts o n first past p q =
     let all = ones 32 in
-    let whole : through (through 4294967295 (take n o)) (drop n o) ≡ number_of (left all (sent o))
-    = sym (through_append 4294967295 (take n o) (drop n o)) ∙ ap (through 4294967295) (take-append-drop n o) in
+    let behind : past ≡ through (through 4294967295 (take n o)) (drop n o) = q ∙ ap₂ through p (to_end n o) in
+    let whole : past ≡ number_of (left all (sent o))
+    = behind ∙ sym (through_append 4294967295 (take n o) (drop n o)) ∙ ap (through 4294967295) (take-append-drop n o) in
     sym (number_not (left all (sent o)) ∙ rw (length_left all (sent o) refl, whole))
 
 -- the check's bits

@@ -1,5 +1,5 @@
 -- Division steps of a number are the sum of those of its parts, so they can be looked up part by part. Assumes nothing.
-use Prim.Native.Nat.{ℕ, suc, ◌+◌, ◌*◌, ◌/◌, ◌%◌, ◌^◌, ◌<◌}
+use Prim.Native.Nat.{ℕ, zero, suc, ◌+◌, ◌-◌, ◌*◌, ◌≤◌, ◌/◌, ◌%◌, ◌^◌, ◌<◌}
 use native.Mathlib.Omega.{arith}
 use mathlib.Core.Path.{◌≡◌, sym, ap, ap₂, ◌∙◌}
 use mathlib.Core.Bool.{Bool}
@@ -69,35 +69,39 @@ steps_parts j k n =
     ∙ sum_comm (bits_of 32 (steps (j + k) high)) (bits_of 32 (steps (j + k) low))
     ∙ ap (λ (x : ℕ). bits_of 32 (steps (j + k) low) ⊕ bits_of 32 x) (steps_above j k (n / 2 ^ j))
 
-pub slice_below : (i : ℕ) → i < 256 → get_or slices i 0 < 2 ^ 32
-slice_below i p = rw (by-rule slice 256 i p) (steps_below (4 * suc (i / 16)) (i % 16))
-
 -- half an octet looked up in the slices, with the halves above it still to come
-slice_parts : (j n : ℕ) → j % 16 ≡ 0 → j < 256
-    → bits_of 32 (steps ((j + 16) / 4) n) ≡ bits_of 32 (get_or slices (j + n % 16) 0) ⊕ bits_of 32 (steps (j / 4) (n / 16))
-slice_parts j n p q =
-    let word : get_or slices (j + n % 16) 0 ≡ slice (j + n % 16) = by-rule slice 256 (j + n % 16) (omega arith) in
-    let value : (j + n % 16) % 16 ≡ n % 16 = omega arith in
-    let width : 4 * suc ((j + n % 16) / 16) ≡ 4 + j / 4 = omega arith in
-    let all : (j + 16) / 4 ≡ 4 + j / 4 = omega arith in
-    rw (word, value, width, all) (steps_parts 4 (j / 4) n)
+slice_parts : (j n : ℕ) → j < 16
+    → bits_of 32 (steps (4 + 4 * j) n) ≡ bits_of 32 (get_or slices (16 * j + n % 16) 0) ⊕ bits_of 32 (steps (4 * j) (n / 16))
+slice_parts j n p =
+    let i = 16 * j + n % 16 in
+    let word : get_or slices i 0 ≡ slice i = by-rule slice 256 i (omega arith) in
+    let value : i % 16 ≡ n % 16 = omega arith in
+    let width : 4 * suc (i / 16) ≡ 4 + 4 * j = omega arith in
+    rw (word, value, width) (steps_parts 4 (4 * j) n)
 
 -- a sum of words under way: with nothing added, one word more, and nothing left
 pub sum_begins : (n : ℕ) → bits_of 32 0 ⊕ bits_of 32 n ≡ bits_of 32 n
 sum_begins n = rw (bits_zero 32) (zeros_sum 32 (bits_of 32 n) (omega (arith, length_bits 32 n)))
 
-pub sum_goes_on : (sum j n : ℕ) {all : List Bool} → j % 16 ≡ 0 → j < 256 → bits_of 32 sum ⊕ bits_of 32 (steps ((j + 16) / 4) n) ≡ all
-    → bits_of 32 (bit_xor sum (get_or slices (j + n % 16) 0)) ⊕ bits_of 32 (steps (j / 4) (n / 16)) ≡ all
-sum_goes_on sum j n p q e =
-    let word = get_or slices (j + n % 16) 0 in
-    ap (λ (l : List Bool). l ⊕ bits_of 32 (steps (j / 4) (n / 16))) (bits_xor 32 sum word)
-    ∙ sum_assoc (bits_of 32 sum) (bits_of 32 word) (bits_of 32 (steps (j / 4) (n / 16)))
-    ∙ ap (λ (l : List Bool). bits_of 32 sum ⊕ l) (sym (slice_parts j n p q)) ∙ e
+pub sum_goes_on : (words : List ℕ) (sum k n : ℕ) {all : List Bool} → words ≡ slices → 0 < k → k ≤ 16
+    → bits_of 32 sum ⊕ bits_of 32 (steps (4 * k) n) ≡ all
+    → bits_of 32 (bit_xor sum (get_or words (16 * (k - 1) + n % 16) 0)) ⊕ bits_of 32 (steps (4 * (k - 1)) (n / 16)) ≡ all
+sum_goes_on words sum k n w l h e =
+    let word = get_or slices (16 * (k - 1) + n % 16) 0 in
+    let left = bits_of 32 (steps (4 * (k - 1)) (n / 16)) in
+    let one : 4 + 4 * (k - 1) ≡ 4 * k = omega arith in
+    rw w
+    (ap (λ (l : List Bool). l ⊕ left) (bits_xor 32 sum word)
+    ∙ sum_assoc (bits_of 32 sum) (bits_of 32 word) left
+    ∙ ap (λ (l : List Bool). bits_of 32 sum ⊕ l) (sym (slice_parts (k - 1) n (omega arith)))
+    ∙ rw one e)
 
-pub sum_ends : (sum n k w : ℕ) → sum < 2 ^ 32 → bits_of 32 sum ⊕ bits_of 32 (steps 0 n) ≡ bits_of 32 (steps k w) → sum ≡ steps k w
+pub sum_ends : (sum k n j w : ℕ) → k ≤ 0 → sum < 2 ^ 32 → bits_of 32 sum ⊕ bits_of 32 (steps (4 * k) n) ≡ bits_of 32 (steps j w)
+    → sum ≡ steps j w
 unfolding divide bits_of
-sum_ends sum n k w p e =
-    same_bits 32 sum (steps k w) p (steps_below k w)
+sum_ends sum zero n j w z p e =
+    same_bits 32 sum (steps j w) p (steps_below j w)
     (sym (ap (λ (l : List Bool). bits_of 32 sum ⊕ l) (bits_steps 0 n) ∙ sum_comm (bits_of 32 sum) (zeros 32)
     ∙ zeros_sum 32 (bits_of 32 sum) (omega (arith, length_bits 32 sum)))
     ∙ e)
+sum_ends sum (suc k) n j w z p e = absurd (omega arith)

@@ -6,6 +6,7 @@ use crate::table::by_octets;
 
 // The register begins with all ones, which complements the first 32 bits. Octets go through it several at a time, and the last three at
 // most one by one.
+#[tactic(auto, using(crate::proofs::Register::in_two_parts))]
 pub fn of(octets: &[u8]) -> u32
     ensures { Sums octets.now result }
 {

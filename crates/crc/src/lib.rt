@@ -3,7 +3,6 @@
 #![tactic(auto)]
 
 mod division;
-mod low;
 mod slices;
 mod table;
 

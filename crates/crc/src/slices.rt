@@ -1,9 +1,7 @@
 // Division by several octets at once: each half of an octet has sixteen words of its own, one for each of its values, and their sum is what
 // the register becomes.
-ghost use Rattle.std.specs.Prelude.{◌≡◌, ◌/◌, ◌%◌, ◌≤◌, length};
+ghost use Rattle.std.specs.Prelude.{◌≡◌, ◌*◌, ◌%◌, ◌≤◌, length};
 ghost use Rattle.crc.specs.Tables.{slices, steps, through};
-
-use crate::low::{low32, low64};
 
 const SLICES: [u32; 256] = [
     0x00000000, 0x1DB71064, 0x3B6E20C8, 0x26D930AC, 0x76DC4190, 0x6B6B51F4, 0x4DB26158, 0x5005713C,
@@ -48,35 +46,33 @@ fn half_steps() -> [u32; 256]
 }
 
 // What the register becomes by octets whose count four divides: eight at a time, and four where so many are left.
-#[tactic(auto, using(crate::proofs::Register::four_left))]
+#[tactic(auto, using(crate::proofs::Register::none_through, crate::proofs::Eights::eight_more, crate::proofs::Eights::four_left))]
 pub fn by_words(register: u32, octets: &[u8]) -> u32
     requires { length octets.now % 4 ≡ 0 }
     ensures { result ≡ through register octets.now }
 {
     let words = half_steps();
     let mut past = register;
-    let mut i: usize = 0;
-    while 8 <= octets.len() - i {
-        past = looked_up(&words, 256, past as u64 ^ low64(octets, i));
-        i += 8;
+    let (eights, rest) = octets.as_chunks::<8>();
+    for &eight in eights {
+        past = looked_up(&words, 16, past as u64 ^ u64::from_le_bytes(eight));
     }
-    if i < octets.len() {
-        past = looked_up(&words, 128, (past ^ low32(octets, i)) as u64);
+    if let Some(&four) = rest.first_chunk::<4>() {
+        past = looked_up(&words, 8, (past ^ u32::from_le_bytes(four)) as u64);
     }
     past
 }
 
 // All steps of a word of so many halves of octets, each of which takes sixteen of the slices.
-fn looked_up(words: &[u32; 256], taken: usize, word: u64) -> u32
-    requires { (words.now ≡ slices) × (taken % 16 ≡ 0) × (taken ≤ 256) }
-    ensures { result ≡ steps (taken / 4) word }
+#[tactic(auto, using(crate::proofs::Sliced::sum_begins, crate::proofs::Sliced::sum_goes_on, crate::proofs::Sliced::sum_ends))]
+fn looked_up(words: &[u32; 256], halves: usize, word: u64) -> u32
+    requires { (words.now ≡ slices) × (halves ≤ 16) }
+    ensures { result ≡ steps (4 * halves) word }
 {
     let mut sum: u32 = 0;
     let mut rest = word;
-    let mut k = taken;
-    while 0 < k {
-        k -= 16;
-        sum ^= words[k + (rest % 16) as usize];
+    for k in (0..halves).rev() {
+        sum ^= words[16 * k + (rest % 16) as usize];
         rest /= 16;
     }
     sum

@@ -45,20 +45,18 @@ fn eight_steps() -> [u32; 256]
 }
 
 // What the register becomes by octets.
-#[tactic(auto, using(crate::proofs::Register::nothing_through))]
+#[tactic(auto, using(crate::proofs::Register::nothing_through, crate::proofs::Register::octet_more))]
 pub fn by_octets(register: u32, octets: &[u8]) -> u32
     ensures { result ≡ through register octets.now }
 {
     // The table is laid down only where there is an octet for it.
-    if octets.len() == 0 {
+    if octets.is_empty() {
         return register;
     }
     let table = eight_steps();
     let mut past = register;
-    let mut i: usize = 0;
-    while i < octets.len() {
-        past = table[((past ^ octets[i] as u32) % 256) as usize] ^ past / 256;
-        i += 1;
+    for &octet in octets {
+        past = table[((past ^ octet as u32) % 256) as usize] ^ past / 256;
     }
     past
 }

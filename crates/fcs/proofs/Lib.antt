@@ -1,4 +1,3 @@
-pub mod Same
 pub mod Decided
 pub mod Trips
 pub mod Unique

@@ -1,16 +1,17 @@
 -- The claims of `specs/RoundTrip`, from what the division is worth. Assumes nothing.
-use Prim.Native.Nat.{ℕ, ◌+◌, ◌-◌, ◌*◌, ◌/◌, ◌%◌, ◌≤◌}
+use Prim.Native.Nat.{ℕ, ◌+◌, ◌-◌, ◌*◌, ◌≤◌}
 use native.Mathlib.Omega.{arith}
-use mathlib.Core.Path.{◌≡◌, refl, sym, ap, ap₂, ◌∙◌}
+use mathlib.Core.Path.{◌≡◌, refl, sym, ap, ◌∙◌}
 use mathlib.Core.Bool.{Bool, true, false, not, true≢false, false≢true}
-use mathlib.Core.List.{List, [], ◌∷◌, ◌++◌, append-nil, head-eq_of_cons-eq}
+use mathlib.Core.List.{List, [], ◌∷◌, ◌++◌, head-eq_of_cons-eq}
 use lib.ListN.{length, take, length-append, take-append-drop}
 use lib.Seq.{take-append_seam, drop-append_seam}
+use Rattle.std.specs.Prelude.{Ok}
 use Rattle.octets.specs.Checks.{verdict, good}
 use Rattle.crc.specs.Bits.{bits_of, sent}
 use Rattle.crc.specs.Division.{remainder, crc}
-use Rattle.crc.proofs.Numbers.{length_bits, bits_split, bits_low}
-use Rattle.crc.proofs.LowFirst.{sent_append}
+use Rattle.crc.proofs.Numbers.{length_bits}
+use Rattle.crc.proofs.LowFirst.{sent_append, sent_octets}
 use Rattle.crc.proofs.Register.{bits_crc}
 use Rattle.crc.proofs.Damage.{residue_left, bursts_seen}
 use Rattle.fcs.specs.Sequence.{low_first, frame_of, check_of, checks, Checks}
@@ -22,19 +23,8 @@ use Rattle.fcs.proofs.Unique.{checks_one}
 
 -- a check's octets, as they are sent
 sent_low : (n : ℕ) → sent (low_first n) ≡ bits_of 32 n
-unfolding sent low_first
-sent_low n =
-    let second : n / 256 / 256 ≡ n / 65536 = omega arith in
-    let third : n / 65536 / 256 ≡ n / 16777216 = omega arith in
-    sym
-    (bits_split 8 24 n
-    ∙ ap₂ (λ (l m : List Bool). l ++ m) (sym (bits_low 8 n))
-    (bits_split 8 16 (n / 256)
-    ∙ ap₂ (λ (l m : List Bool). l ++ m) (sym (bits_low 8 (n / 256)))
-    (rw second
-    (bits_split 8 8 (n / 65536)
-    ∙ ap₂ (λ (l m : List Bool). l ++ m) (sym (bits_low 8 (n / 65536)))
-    (rw third (sym (bits_low 8 (n / 16777216)) ∙ sym (append-nil (bits_of 8 (n / 16777216 % 256)))))))))
+unfolding low_first
+sent_low = sent_octets 4
 
 -- a frame with its check put behind it is one with its check
 appended_frame : (o : List ℕ) → (frame_of (appended o) ≡ o) × (check_of (appended o) ≡ low_first (crc o))
@@ -48,7 +38,7 @@ append_then_check o out k later r at part place p q h =
     let w = written o out p in
     let parts = appended_frame o in
     let long = length_appended o in
-    let right : Checks (appended o) 0
+    let right : Checks (appended o) (Ok tt)
     = check_matches (appended o) (omega (arith, long, w.0)) (omega (arith, long, w.1))
     (parts.1 ∙ ap (λ (l : List ℕ). low_first (crc l)) (sym parts.0)) in
     let now : take k later ≡ appended o = w.2 in

@@ -4,7 +4,6 @@
 // not read.
 #![tactic(auto)]
 
-mod low;
 mod part;
 mod sequence;
 mod writer;
@@ -12,10 +11,3 @@ mod writer;
 pub use part::without;
 pub use sequence::check;
 pub use writer::append;
-
-// What `append` answers: the result's length, or the refusal.
-#[derive(Drop)]
-pub enum Written {
-    Length(usize),
-    Refused(u8),
-}

@@ -3,15 +3,13 @@ ghost use Rattle.fcs.specs.Part.{HandsBack};
 
 use crate::sequence::check;
 
-// The octets before the check where `check` answers 0; an empty part where it refuses.
-#[tactic(auto, using(crate::proofs::Decided::good_least, crate::proofs::Decided::good_part))]
+// The octets before the check of a frame that `check` accepts; an empty part of any other.
+#[tactic(auto, using(crate::proofs::Decided::of_without))]
 pub fn without(frame: &[u8]) -> &[u8]
     ensures { HandsBack frame.now frame.entry.ref_ptr result.now result.ref_ptr }
 {
-    if check(frame) == 0 {
-        let end = frame.len() - 4;
-        &frame[..end]
-    } else {
-        &frame[..0]
+    match check(frame) {
+        Ok(()) => &frame[..frame.len() - 4],
+        Err(_) => &frame[..0],
     }
 }

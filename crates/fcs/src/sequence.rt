@@ -1,25 +1,24 @@
 // The check of a frame.
 ghost use Rattle.fcs.specs.Sequence.{Checks};
 
-use crate::low::low_first;
+use octets::Refusal;
 
-// 0 where the last four octets are the check of those before them, or the refusal.
-#[tactic(auto, using(crate::proofs::Decided::check_short, crate::proofs::Decided::check_long))]
-pub fn check(frame: &[u8]) -> u8
+// Whether the last four octets are the check of those before them, low octet first.
+#[tactic(auto, using(crate::proofs::Decided::of_check), unfolding(crate::specs::Sequence::low_first))]
+pub fn check(frame: &[u8]) -> Result<(), Refusal>
     ensures { Checks frame.now result }
 {
     let all = frame.len();
     if all < 18 {
-        return 1;
+        return Err(Refusal::FrameShort);
     }
     if 1526 < all {
-        return 2;
+        return Err(Refusal::FrameLong);
     }
-    let end = all - 4;
-    let sequence = low_first(crc::of(&frame[..end]));
-    if &frame[end..] == &sequence[..] {
-        0
+    let (before, sequence) = frame.split_at(all - 4);
+    if sequence == &crc::of(before).to_le_bytes()[..] {
+        Ok(())
     } else {
-        28
+        Err(Refusal::WrongCheck)
     }
 }

@@ -1,9 +1,6 @@
 // The frame check sequence (CR 6 of document 02) for C: a frame without its check as its length.
 ghost use Rattle.crc.specs.Division.{Sums};
-ghost use Rattle.fcs.specs.Sequence.{Checks};
-ghost use Rattle.fcs_c.specs.Sequences.{PartOctets, AppendsTo};
-
-use fcs::Written;
+ghost use Rattle.fcs_c.specs.Sequences.{ChecksTo, PartOctets, AppendsTo};
 
 // The CRC-32 of any octets.
 #[unsafe(no_mangle)]
@@ -14,11 +11,12 @@ pub extern "C" fn ahz_crc32(octets: &[u8]) -> u32
 }
 
 // 0 where a frame has its check behind it, or the refusal.
+#[tactic(auto, using(words::proofs::FromRoom::code_told))]
 #[unsafe(no_mangle)]
 pub extern "C" fn ahz_check_fcs(frame: &[u8]) -> u8
-    ensures { Checks frame.now result }
+    ensures { ChecksTo frame.now result }
 {
-    fcs::check(frame)
+    words::code(fcs::check(frame))
 }
 
 // How many octets the frame has without its check: the first ones. 0 for a frame that `ahz_check_fcs` refuses.
@@ -31,15 +29,11 @@ pub extern "C" fn ahz_without_fcs(frame: &[u8]) -> usize
 }
 
 // The frame with its check, written to `out`, and its length.
+#[tactic(auto, using(words::proofs::FromRoom::written_told))]
 #[unsafe(no_mangle)]
 pub extern "C" fn ahz_append_fcs(frame: &[u8], out: &mut [u8], length: &mut usize) -> u8
     ensures { AppendsTo frame.now out.old length.old result out.new length.new }
 {
-    match fcs::append(frame, out) {
-        Written::Length(n) => {
-            *length = n;
-            0
-        }
-        Written::Refused(no) => no,
-    }
+    let written = fcs::append(frame, out);
+    words::told(written, length)
 }

@@ -1,5 +1,5 @@
 -- Volts are bounded (`specs/Bounds`), for every card and every calibration that is accepted. Assumes nothing.
-use mathlib.Core.Path.{◌≡◌}
+use mathlib.Core.Path.{◌≡◌, sym}
 use mathlib.Core.Bool.{true, false, ◌&&◌, true≢false}
 use mathlib.Core.List.{List}
 use Prim.Native.Nat.{ℕ, ◌*◌, ◌≤◌, ◌<◌}
@@ -16,11 +16,11 @@ use lib.Ieee.Back.{round_whole}
 use lib.Ieee.Order.{round_mono}
 use Rattle.octets.specs.Number.{be16}
 use Rattle.octets.proofs.Bools.{by_cases}
-use Rattle.volts.specs.Reading.{number, accepted, volts_of_raw, volts_of_millivolts, volts_of}
+use Rattle.volts.specs.Reading.{number, accepted, volts_of_raw, volts_of_millivolts}
 use Rattle.volts.specs.Bounds.{Between, Bounded, VoltsBounded, MillivoltsGrow}
 use Rattle.volts.specs.declared.Calibration.{Calibration}
 use Rattle.cards.proofs.Kind.{each, after16}
-use Rattle.volts.proofs.Judged.{read_accepted, read_refused}
+use Rattle.volts.proofs.Judged.{volts_next, read_accepted, read_refused}
 use Rattle.volts.proofs.Rounded.{at_most, at_least, round_between}
 use Rattle.volts.proofs.Between.{number_between, mul_between, add_between}
 
@@ -85,8 +85,8 @@ volts_bounded o octets c r e =
     rw e
     (by_cases (accepted c)
     (λ ok.
-    rw (← read_accepted o c ok)
-    (each (λ k. Bounded (volts_of k c)) o tt tt tt (λ k l. tt)
+    rw (← read_accepted o c (sym ok))
+    (each (λ r. Bounded (volts_next r c)) o tt tt tt (λ k l. tt)
     (λ k l. raw_between (be16 (drop 1 o) 0) c (word_small o octets) (rw ok tt))
     (λ k l. millivolts_between (be16 (drop 1 o) 0) (word_small o octets))))
-    (λ bad. rw (← read_refused o c bad) tt))
+    (λ bad. rw (← read_refused o c (sym bad)) tt))

@@ -4,6 +4,8 @@ use mathlib.Core.Bool.{Bool, true, false}
 use mathlib.Core.List.{List, [], ◌∷◌, map}
 use Prim.Native.Nat.{ℕ}
 use lib.Ieee.{of_bits, of_int, neg, lt, le, add, mul}
+use Rattle.std.specs.Prelude.{Ok, Err}
+use Rattle.octets.specs.declared.Refusal.TheVariants.{CalibrationRange}
 use Rattle.octets.specs.Number.{be16}
 use Rattle.volts.specs.Reading.{number, double, accepted, reading, RawTen}
 use Rattle.volts.specs.declared.Calibration.{Calibration}
@@ -15,13 +17,13 @@ raw_ten = refl
 
 -- "rounded after each operation": three thirds are 1 after the first rounding, so nothing is left; a fused step would leave -2 ^ -54
 pub two_roundings : reading (0x11 ∷ 0 ∷ 3 ∷ []) (record { gain = double 0x3fd5_5555_5555_5555; offset = neg (number 1) })
-    ≡ volts.FromRawCode (number 0)
+    ≡ Ok (volts.FromRawCode (number 0))
 unfolding of_bits of_int lt le neg mul add be16 reading
 two_roundings = refl
 
--- 22 comes before 20 and 21
+-- the calibration's refusal comes before the card's
 pub order : map (λ o. reading o (record { gain = number 0; offset = number 0 })) ((0x13 ∷ []) ∷ (0x11 ∷ 0 ∷ []) ∷ [] ∷ [])
-    ≡ volts.Refused 22 ∷ volts.Refused 22 ∷ volts.Refused 22 ∷ []
+    ≡ Err CalibrationRange ∷ Err CalibrationRange ∷ Err CalibrationRange ∷ []
 unfolding of_int lt le reading
 order = refl
 

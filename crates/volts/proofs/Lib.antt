@@ -1,3 +1,4 @@
+pub mod Constants
 pub mod Judged
 pub mod Rounded
 pub mod Between

@@ -1,9 +1,11 @@
 -- Document 01, "Charge cards": a calibration, and the volts of a card, in the logic's own account of IEEE 754. `RawTen` is a claim, which
 -- proofs/Examples proves. Assumes nothing.
-use Rattle.std.specs.Prelude.{ℕ, ◌≡◌, List, [], ◌∷◌, Bool, not, ◌&&◌, pos, Float}
+use Rattle.std.specs.Prelude.{ℕ, ◌≡◌, List, [], ◌∷◌, Bool, not, ◌&&◌, pos, Float, Result, Ok}
 use Rattle.std.specs.Float.{binary64}
 use Rattle.std.specs.Float.Ieee.{add, mul, div, neg, lt, le, of_int, of_bits}
-use Rattle.octets.specs.Checks.{Check, ◌⇒◌, Verdict, good, refuse, verdict}
+use Rattle.octets.specs.declared.Refusal.{Refusal}
+use Rattle.octets.specs.declared.Refusal.TheVariants.{CalibrationRange}
+use Rattle.octets.specs.Checks.{Check, ◌⇒◌, verdict, answered}
 use Rattle.cards.specs.Payload.{standing, card_checks}
 use Rattle.cards.specs.declared.Card.{Card}
 use Rattle.cards.specs.declared.Card.TheVariants as card
@@ -39,28 +41,22 @@ volts_of (card.FlushOrder n) c = volts.NotAReading
 volts_of (card.RawCode n) c = volts.FromRawCode (volts_of_raw n c)
 volts_of (card.Millivolts n) c = volts.FromMillivolts (volts_of_millivolts n)
 volts_of card.End c = volts.NotAReading
-volts_of (card.Refused n) c = volts.Refused n
 
 -- "Order: 22 where a calibration is given, then 20, then 21": "calibration"; "card kind; card cut"
 abbrev pub reading_checks : List ℕ → Calibration → List Check
-reading_checks o c = not (accepted c) ⇒ 22 ∷ card_checks o
+reading_checks o c = not (accepted c) ⇒ CalibrationRange ∷ card_checks o
 
--- "It returns the number alone": volts that no check refuses, or the refusal
-abbrev pub judged_volts : Verdict → Volts → Volts
-judged_volts good v = v
-judged_volts (refuse n) v = volts.Refused n
-
--- what the next card says of the bank
-unfoldable pub reading : List ℕ → Calibration → Volts
+-- what the next card says of the bank, or the refusal
+unfoldable pub reading : List ℕ → Calibration → Result Volts Refusal
 unfolding verdict
-reading o c = judged_volts (verdict (reading_checks o c)) (volts_of (standing o) c)
+reading o c = answered (verdict (reading_checks o c)) (volts_of (standing o) c)
 
 -- the promise: of `read`
-abbrev pub ReadsVolts : List ℕ → Calibration → Volts → Type 0
+abbrev pub ReadsVolts : List ℕ → Calibration → Result Volts Refusal → Type 0
 ReadsVolts o c r = r ≡ reading o c
 
 -- "Raw 10, gain 0.25, offset 0.5 is 3.0"
 abbrev pub RawTen : Type 0
 RawTen =
     reading (0x11 ∷ 0 ∷ 10 ∷ []) (record { gain = double 0x3fd0_0000_0000_0000; offset = double 0x3fe0_0000_0000_0000 })
-    ≡ volts.FromRawCode (number 3)
+    ≡ Ok (volts.FromRawCode (number 3))

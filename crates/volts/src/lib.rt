@@ -12,12 +12,10 @@ pub struct Calibration {
 }
 
 // What the next card says of the bank.
-#[derive(Drop)]
+#[derive(Clone, Copy)]
 pub enum Volts {
     FromRawCode(f64),
     FromMillivolts(f64),
     // A flush order or the end.
     NotAReading,
-    // 22: the calibration; then the card's own refusal.
-    Refused(u8),
 }

@@ -9,15 +9,15 @@ pub extern "C" fn ahz_volts(payload: &[u8], gain: f64, offset: f64, volts: &mut 
     ensures { VoltsTo payload.now gain offset volts.old result volts.new }
 {
     match volts::read(payload, Calibration { gain, offset }) {
-        Volts::FromRawCode(v) => {
+        Ok(Volts::FromRawCode(v)) => {
             *volts = v;
             104
         }
-        Volts::FromMillivolts(v) => {
+        Ok(Volts::FromMillivolts(v)) => {
             *volts = v;
             105
         }
-        Volts::NotAReading => 106,
-        Volts::Refused(no) => no,
+        Ok(Volts::NotAReading) => 106,
+        Err(refusal) => refusal.number(),
     }
 }

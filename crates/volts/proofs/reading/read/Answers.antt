@@ -1,18 +1,9 @@
--- The calibration's answer decides, and then the next card's.
-use Rattle.std.proofs.Common.{sym, ap, ◌∙◌}
-use Rattle.cards.specs.declared.Card.{Card}
-use Rattle.volts.specs.Reading.{volts_of}
-use Rattle.volts.proofs.Judged.{read_accepted, read_refused}
+-- A card's refusal is handed on.
+use Rattle.std.proofs.lemmas.Result.{err_from_is_err_and}
+use Rattle.volts.proofs.Judged.{read_none}
 use Rattle.volts.proofs.reading.read.Goals as goal
 
--- a calibration that is accepted
-pub returns-then-accepts : goal.returns-then-accepts
-returns-then-accepts c =
-    let calibration = c.args.calibration in
-    c.of_card.ensures
-    ∙ ap (λ (k : Card). volts_of k calibration) c.next.ensures
-    ∙ read_accepted c.args.payload.now calibration (sym c.accepts.ensures ∙ c.if-accepts.true)
-
--- one that is not
-pub returns-else-accepts : goal.returns-else-accepts
-returns-else-accepts c = read_refused c.args.payload.now c.args.calibration (sym c.accepts.ensures ∙ c.if-accepts.false)
+pub returns-in_err-card : goal.returns-in_err-card
+returns-in_err-card c =
+    let p = err_from_is_err_and c.from_residual.result c.from_residual.ensures.1 in
+    rw (p.1, p.2) (read_none c.args.payload.now c.args.calibration _ c.if-not-accepts.ensures c.in_err-card.ensures)
