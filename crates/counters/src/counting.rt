@@ -7,37 +7,29 @@ use rules::Effect;
 pub fn none() -> Counters
     ensures { StartsAtZero result }
 {
-    Counters {
-        passed: 0,
-        discarded: 0,
-        order: 0,
-        rogue: 0,
-        lost: 0,
-        tagless: 0,
-        resets: 0,
-        latent_resets: 0,
-        before_first: 0,
-    }
+    Counters::default()
 }
 
 // Every count of a packet in one place: passed and discarded add 1 to their counters, a rogue's discard too, and of the places lost the
 // holes are those below the first packet's.
+#[tactic(auto, using(octets::proofs::Bools::one_if, octets::proofs::Bools::one_unless), unfolding(crate::specs::Counting::plus, crate::specs::Counting::counted))]
 pub fn count(mut k: Counters, tagless: u64, holes: u64, e: Effect) -> Counters
     ensures { Counts k tagless holes e result }
 {
-    k.lost = std::num::wrapping_add_u64(k.lost, e.lost);
-    k.discarded = std::num::wrapping_add_u64(k.discarded, !e.passes as u64);
-    k.passed = std::num::wrapping_add_u64(k.passed, e.passes as u64);
-    k.order = std::num::wrapping_add_u64(k.order, e.order);
-    k.rogue = std::num::wrapping_add_u64(k.rogue, e.rogue);
-    k.before_first = std::num::wrapping_add_u64(k.before_first, holes);
-    k.tagless = std::num::wrapping_add_u64(k.tagless, tagless);
+    k.lost = k.lost.wrapping_add(e.lost);
+    k.discarded = k.discarded.wrapping_add(!e.passes as u64);
+    k.passed = k.passed.wrapping_add(e.passes as u64);
+    k.order = k.order.wrapping_add(e.order);
+    k.rogue = k.rogue.wrapping_add(e.rogue);
+    k.before_first = k.before_first.wrapping_add(holes);
+    k.tagless = k.tagless.wrapping_add(tagless);
     k
 }
 
+#[tactic(auto, unfolding(crate::specs::Counting::plus, crate::specs::Counting::reset_counted))]
 pub fn count_reset(mut k: Counters) -> Counters
     ensures { CountsReset k result }
 {
-    k.resets = std::num::wrapping_add_u64(k.resets, 1);
+    k.resets = k.resets.wrapping_add(1);
     k
 }

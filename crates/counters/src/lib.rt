@@ -8,7 +8,7 @@ mod counting;
 mod latent_errors;
 
 // They wrap.
-#[derive(Clone, Copy)]
+#[derive(Clone, Copy, Default)]
 pub struct Counters {
     pub passed: u64,
     pub discarded: u64,

@@ -10,7 +10,8 @@ mod window;
 
 pub use window::{clear_from, is_set, none, set, slide};
 
-// Word i has the marks 64 i to 64 i + 63, the lowest at bit 0. The words are public, since any state at all may be handed in.
+// Word i has the marks 64 i to 64 i + 63, the lowest at bit 0. The words are public, since any state at all may be handed in. They are
+// eight fields and no array: a word is found by masks, with no loop, no index and no branch (docs/MEASURES.md).
 #[derive(Clone, Copy)]
 pub struct Marks {
     pub w0: u64,

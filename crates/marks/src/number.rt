@@ -43,11 +43,11 @@ fn given(yes: bool, word: u64) -> u64
 fn past(i: u8, end: u32) -> u32
     ensures { result ≡ bits * i + bits - end }
 {
-    let last = WORD * i as u32 + WORD;
-    if end < last { last - end } else { 0 }
+    (WORD * i as u32 + WORD).saturating_sub(end)
 }
 
 // What of word i is below `end`.
+#[tactic(auto, using(crate::proofs::Counted::mask_cut))]
 fn below(word: u64, i: u8, end: u32) -> u64
     ensures { result ≡ word % 2 ^ min bits (end - bits * i) }
 {
@@ -73,7 +73,7 @@ pub(crate) fn cut(marks: Marks, end: u32) -> Marks
     }
 }
 
-// Whether two marks are the same.
+// Whether two marks are the same. A derived == would stop at the first word that differs, by a branch at each.
 pub(crate) fn same(a: Marks, b: Marks) -> bool
     ensures { result ≡ same_words a b }
 {
@@ -88,6 +88,7 @@ pub(crate) fn same(a: Marks, b: Marks) -> bool
 }
 
 // Word i, or 0 where there is none.
+#[tactic(auto, using(crate::proofs::Counted::pick_word))]
 pub(crate) fn word_at(marks: Marks, i: u32) -> u64
     ensures { result ≡ get_or (words_of marks) i 0 }
 {
@@ -113,7 +114,7 @@ pub(crate) fn count(word: u64) -> u32
     ensures value { result ≡ ones_in word }
     ensures upper_bound { result ≤ bits }
 {
-    u64::count_ones(word)
+    word.count_ones()
 }
 
 // Eight words, from the i-th on, of a row that has the marks in its middle and eight words of none on either side.
@@ -154,6 +155,7 @@ fn behind(marks: Marks, i: u32) -> Marks
 }
 
 // A word moved by b marks, with those that the word below it carries over.
+#[tactic(auto, using(crate::proofs::Counted::carry_or))]
 fn carried(low: u64, word: u64, b: u32) -> u64
     requires { b < bits }
     ensures { result ≡ word * 2 ^ b % 2 ^ bits + low / 2 ^ (bits - b) }
@@ -182,7 +184,7 @@ fn within(marks: Marks, b: u32) -> Marks
 fn words_of(places: u32) -> u32
     ensures { result ≡ min (places / bits) 8 }
 {
-    if places < MOST { places / WORD } else { 8 }
+    (places / WORD).min(8)
 }
 
 // The marks moved by any number of places: by whole words, and then within them.

@@ -6,6 +6,7 @@ ghost use Rattle.std.specs.Prelude.{◌≡◌, ◌+◌, ◌-◌, ◌^◌, ◌≤
 use crate::number::{ALL, MOST, WORD, alone, count, cut, moved, ones_from, same, with, word_at};
 use crate::{Marks, Slid};
 
+#[tactic(auto, unfolding(crate::specs::Window::none))]
 pub fn none() -> Marks
     ensures { StartsClear result }
 {
@@ -45,23 +46,18 @@ pub fn set(marks: Marks, k: u32) -> Marks
 }
 
 // The length that a history counts as: its own, or the nearest that there can be.
+#[tactic(auto, unfolding(crate::specs::Window::reach))]
 fn reach_of(history: u32) -> u32
     ensures { result ≡ reach history }
 {
-    if history == 0 {
-        1
-    } else if history < MOST {
-        history
-    } else {
-        MOST
-    }
+    history.clamp(1, MOST)
 }
 
 // How many marks leave: one at each place, until none is left.
 fn count_leaving(reach: u32, places: u32) -> u32
     ensures { result ≡ min places reach }
 {
-    if places < reach { places } else { reach }
+    places.min(reach)
 }
 
 // A word of ones at the n marks from k on. No shift is by the whole word: n is at least 1, so that WORD - n and k are at most 63.

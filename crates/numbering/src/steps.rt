@@ -16,7 +16,7 @@ impl Generator {
     {
         let number = self.number;
         let next = Generator {
-            number: std::num::wrapping_add_u16(number, 1),
+            number: number.wrapping_add(1),
         };
         Generated { number, next }
     }

@@ -8,8 +8,7 @@ use numbering::Generator;
 pub extern "C" fn ahz_generator() -> u16
     ensures { ZeroesTo result }
 {
-    let g = Generator::fresh();
-    g.number
+    Generator::fresh().number
 }
 
 // The generator's number; the lent generator goes on to the next one.
@@ -19,8 +18,7 @@ pub extern "C" fn ahz_generate(generator: &mut u16) -> u16
 {
     let number = *generator;
     let step = Generator { number }.step();
-    let next = step.next;
-    *generator = next.number;
+    *generator = step.next.number;
     step.number
 }
 
@@ -30,6 +28,5 @@ pub extern "C" fn ahz_generator_reset(generator: &mut u16)
     ensures { ZeroesTo generator.new }
 {
     let number = *generator;
-    let next = Generator { number }.reset();
-    *generator = next.number;
+    *generator = Generator { number }.reset().number;
 }

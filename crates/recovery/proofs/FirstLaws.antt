@@ -7,7 +7,7 @@ use borrow.Author.Tests.{eqb-true, eqb-false, eq-eqb, ne_eqb, leb-true, leb-fals
 use native.Mathlib.Omega.{arith}
 use Rattle.octets.proofs.Bools.{by_cases, either, both}
 use Rattle.setup.specs.declared.Setup.{Setup}
-use Rattle.setup.specs.Range.{checked, is_vector, full_of}
+use Rattle.setup.specs.Range.{in_range, is_vector, full_of}
 use Rattle.marks.specs.declared.Marks.{Marks}
 use Rattle.marks.specs.Window.{mark, clear_from}
 use Rattle.marks.proofs.Moves.{clear_mark}
@@ -128,6 +128,9 @@ by_mark s =
     (λ t.
     let bare = both _ (is_vector s.setup || clear_from 0 s.marks) (both _ (leb s.left.0 (full_of s.setup).0) t).0 in
     let await = both _ (awaits s) bare.0 in
-    let fits = both (eqb (checked s.setup) 0) (clear_from s.setup.history s.marks) await.0 in
+    let fits = both (in_range s.setup) (clear_from s.setup.history s.marks) await.0 in
     ap (λ (b : Bool). parts_agree s && b) (kept_marked s fits.1 await.1 bare.1 s.first))
     (λ f. rw f)
+
+pub unmarked_unsound : (s : State) → (eqb (mark (s.first.0 - 1) s.marks) 1 || eqb s.first.0 0) ≡ false → false ≡ sound s
+unmarked_unsound s clear = rw (← by_mark s, clear, and-false)

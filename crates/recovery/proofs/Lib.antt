@@ -1,5 +1,4 @@
 pub mod RuleLaws
-pub mod TimerLaws
 pub mod SoundLaws
 pub mod FirstLaws
 pub mod SoundCalls

@@ -1,7 +1,8 @@
 -- The repeats of a stuck sender are discarded in individual use (`specs/Repeats`): each leaves full ticks, so that fewer than these bring
 -- no reset, and a number that was heard just before does not pass. Assumes nothing.
 use Prim.Native.Nat.{ℕ, ◌+◌, ◌<◌}
-use mathlib.Core.Path.{◌≡◌, refl, sym, ap}
+use Rattle.std.specs.Prelude.{Ok}
+use mathlib.Core.Path.{◌≡◌, ap}
 use mathlib.Core.Bool.{Bool, true, false, cond, or-true}
 use native.Mathlib.Omega.{arith}
 use Rattle.setup.specs.declared.Setup.{Setup}
@@ -15,7 +16,6 @@ use Rattle.recovery.specs.Packets.{numbered, settled, heard, packet_of}
 use Rattle.recovery.specs.Timer.{restarted, tick_of}
 use Rattle.recovery.specs.Repeats.{Repeats, begins, ticks, repeats, RepeatsDiscarded}
 use Rattle.rules.proofs.Again.{again_discarded}
-use Rattle.recovery.proofs.TimerLaws.{full_when}
 use Rattle.recovery.proofs.SoundLaws.{Sound, sound_says}
 use Rattle.recovery.proofs.SoundCalls.{packet_answers, tick_answers}
 use Rattle.recovery.proofs.SoundKept.{history_low, history_high, heard_sound, timed_sound}
@@ -30,8 +30,8 @@ record Stuck (number silence : ℕ) (s : State) : Type 0 where
 
 -- "In individual use a discarded packet also restarts the timer"
 restarts : (passes : Bool) (setup : Setup) (left : Left) → is_individual setup ≡ true → (restarted passes setup left).0 ≡ (full_of setup).0
-restarts passes setup left individual =
-    ap (λ (l : Left). l.0) (sym (full_when passes setup left refl (rw individual (or-true passes))))
+unfolding restarted
+restarts passes setup left individual = rw (individual, or-true)
 
 module _ (number : ℕ) (s : State) (fine : sound s ≡ true) (individual : is_individual s.setup ≡ true) where
   hearing_stuck : Stuck number 0 (packet_of s (Numbered number)).state
@@ -73,4 +73,4 @@ pub repeats_discarded : RepeatsDiscarded
 unfolding heard settled
 repeats_discarded number silence s r before e =
     let k = stuck number silence s before in
-    rw (e, packet_answers s k.still_sound (Numbered number)) (ap (λ (t : Bool). cond t Pass Discard) k.discarded)
+    rw (e, packet_answers s k.still_sound (Numbered number)) (ap (λ (t : Bool). Ok (cond t Pass Discard)) k.discarded)

@@ -1,10 +1,10 @@
 -- What each call answers of a sound state. Assumes nothing.
+use Rattle.std.specs.Prelude.{Ok}
 use mathlib.Core.Path.{◌≡◌}
 use mathlib.Core.Bool.{true, cond}
 use Rattle.recovery.specs.declared.State.{State}
 use Rattle.recovery.specs.declared.Packet.{Packet}
-use Rattle.recovery.specs.declared.Change.TheVariants as change
-use Rattle.recovery.specs.declared.Latent.TheVariants as latent
+use Rattle.recovery.specs.declared.Latent.TheVariants.{Agrees, Error}
 use Rattle.recovery.specs.Soundness.{sound}
 use Rattle.recovery.specs.Resets.{reset_state, reset_of}
 use Rattle.recovery.specs.Timer.{timed, tick_of}
@@ -21,14 +21,14 @@ module _ (s : State) (ok : sound s ≡ true) where
   unfolding tick_of
   tick_answers = choose_first _ _ ok
 
-  pub reset_answers : reset_of s ≡ record { change = change.Done; state = reset_state s }
+  pub reset_answers : reset_of s ≡ record { answer = Ok (tt {0}); state = reset_state s }
   unfolding reset_of
   reset_answers = choose_first _ _ ok
 
-  pub latent_reset_answers : latent_reset_of s ≡ record { change = change.Done; state = rebased s }
+  pub latent_reset_answers : latent_reset_of s ≡ record { answer = Ok (tt {0}); state = rebased s }
   unfolding latent_reset_of
   latent_reset_answers = choose_first _ _ ok
 
-  pub latent_test_answers : latent_test_of s ≡ cond (latent_error s) latent.Error latent.Agrees
+  pub latent_test_answers : latent_test_of s ≡ Ok (cond (latent_error s) Error Agrees)
   unfolding latent_test_of
   latent_test_answers = choose_first _ _ ok

@@ -8,8 +8,8 @@ use native.Mathlib.Nat.{le_refl}
 use native.Mathlib.Omega.{arith}
 use Rattle.octets.proofs.Bools.{by_cases, either, both, and_true}
 use Rattle.setup.specs.declared.Setup.{Setup}
-use Rattle.setup.specs.Range.{checked, is_vector, is_individual, full_of}
-use Rattle.setup.proofs.InRange.{in_range, full_positive}
+use Rattle.setup.specs.Range.{in_range, is_vector, is_individual, full_of}
+use Rattle.setup.proofs.InRange.{ranges, full_positive}
 use Rattle.marks.specs.Window.{most, mark, clear_from, none}
 use Rattle.marks.proofs.Moves.{none_from}
 use Rattle.counters.specs.declared.Counters.{Counters}
@@ -17,7 +17,8 @@ use Rattle.recovery.specs.declared.Left.{Left}
 use Rattle.recovery.specs.declared.State.{State}
 use Rattle.recovery.specs.declared.Packet.{Packet}
 use Rattle.recovery.specs.declared.Packet.TheVariants.{Numbered, Tagless}
-use Rattle.recovery.specs.declared.Timed.{Timed}
+use Rattle.recovery.specs.declared.Stepped.{Stepped}
+use Rattle.recovery.specs.declared.Ticked.{Ticked}
 use Rattle.rules.specs.declared.Effect.{Effect}
 use Rattle.rules.specs.Vector.{vector}
 use Rattle.recovery.specs.Soundness.{awaits, parts_agree, keeps_first, sound}
@@ -35,7 +36,7 @@ use Rattle.recovery.proofs.RuleLaws.{by_take_any, by_vector, by_match, opens, ca
 use Rattle.rules.proofs.VectorKeeps.{set_first, vector_keeps}
 use Rattle.rules.proofs.FirstKept.{first_kept}
 
-pub cleared_sound : (setup : Setup) (counters : Counters) (base : ℕ) → checked setup ≡ 0 → sound (cleared setup counters base) ≡ true
+pub cleared_sound : (setup : Setup) (counters : Counters) (base : ℕ) → in_range setup ≡ true → sound (cleared setup counters base) ≡ true
 unfolding awaits keeps_first
 cleared_sound setup counters base e =
     sound_by (cleared setup counters base)
@@ -76,10 +77,10 @@ module _ (s : State) (ok : Sound s) where
   After take_any tagless trace effect = sound (settled s take_any tagless trace effect).state ≡ true
 
   pub history_low : 1 ≤ s.setup.history
-  history_low = omega (arith, (in_range s.setup ok.in_range).history)
+  history_low = omega (arith, (ranges s.setup ok.in_range).history)
 
   pub history_high : s.setup.history ≤ most
-  history_high = omega (arith, (in_range s.setup ok.in_range).history)
+  history_high = omega (arith, (ranges s.setup ok.in_range).history)
 
   -- ticks left after a packet are full ticks or those of before: what holds of both holds of them, in either use
   left_after : (P : ℕ → Type 0) (passes : Bool) → P (full_of s.setup).0 → P s.left.0 → P (restarted passes s.setup s.left).0
@@ -197,7 +198,7 @@ module _ (s : State) (ok : Sound s) where
       (λ _. sound_by s ok)
       (λ some. either still (eqb s.left.0 1) (λ _. cleared_sound _ _ _ ok.in_range) (λ more. less some more))
     where
-      still : Timed → Type 0
+      still : Stepped Ticked → Type 0
       still r = sound r.state ≡ true
 
       less : eqb s.left.0 0 ≡ false → eqb s.left.0 1 ≡ false → sound (with_left (s.left.0 - 1) s) ≡ true

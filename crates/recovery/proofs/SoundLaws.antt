@@ -2,16 +2,16 @@
 use Prim.Native.Nat.{◌≤◌}
 use mathlib.Core.Path.{◌≡◌}
 use mathlib.Core.Bool.{true, ◌||◌}
-use lib.Dec.{leb, eqb}
-use borrow.Author.Tests.{leb-true, eqb-true, le-leb, eq-eqb}
+use lib.Dec.{leb}
+use borrow.Author.Tests.{leb-true, le-leb}
 use Rattle.octets.proofs.Bools.{both, and_true}
-use Rattle.setup.specs.Range.{checked, is_vector, full_of}
+use Rattle.setup.specs.Range.{in_range, is_vector, full_of}
 use Rattle.marks.specs.Window.{clear_from}
 use Rattle.recovery.specs.declared.State.{State}
 use Rattle.recovery.specs.Soundness.{awaits, parts_agree, keeps_first, sound}
 
 pub record Sound (s : State) : Type 0 where
-  pub in_range : checked s.setup ≡ 0
+  pub in_range : in_range s.setup ≡ true
   pub clear_above : clear_from s.setup.history s.marks ≡ true
   pub awaits_rightly : awaits s ≡ true
   pub match_bare : (is_vector s.setup || clear_from 0 s.marks) ≡ true
@@ -25,9 +25,9 @@ sound_says s e =
     let left = both _ (leb s.left.0 (full_of s.setup).0) first.0 in
     let bare = both _ (is_vector s.setup || clear_from 0 s.marks) left.0 in
     let await = both _ (awaits s) bare.0 in
-    let above = both (eqb (checked s.setup) 0) (clear_from s.setup.history s.marks) await.0 in
+    let above = both (in_range s.setup) (clear_from s.setup.history s.marks) await.0 in
     record {
-      in_range = eqb-true _ _ above.0;
+      in_range = above.0;
       clear_above = above.1;
       awaits_rightly = await.1;
       match_bare = bare.1;
@@ -42,7 +42,7 @@ sound_by s p =
     (and_true
     (and_true
     (and_true
-    (and_true (eq-eqb _ _ p.in_range) p.clear_above)
+    (and_true p.in_range p.clear_above)
     p.awaits_rightly)
     p.match_bare)
     (le-leb _ _ p.left_below))

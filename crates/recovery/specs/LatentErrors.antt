@@ -1,12 +1,13 @@
 -- The latent reset and the latent test of a state (document 01, "Numbering and recovery"). Assumes nothing.
-use Rattle.std.specs.Prelude.{◌≡◌, Bool, cond}
+use Rattle.std.specs.Prelude.{◌≡◌, Bool, cond, Result, Ok, Err}
+use Rattle.octets.specs.declared.Refusal.{Refusal}
+use Rattle.octets.specs.declared.Refusal.TheVariants.{Unsound}
 use Rattle.counters.specs.LatentErrors.{figure, exceeds, latent_counted}
 use Rattle.recovery.specs.declared.State.{State}
-use Rattle.recovery.specs.declared.Changed.{Changed}
-use Rattle.recovery.specs.declared.Change.TheVariants as change
+use Rattle.recovery.specs.declared.Stepped.{Stepped}
 use Rattle.recovery.specs.declared.Latent.{Latent}
-use Rattle.recovery.specs.declared.Latent.TheVariants as latent
-use Rattle.recovery.specs.Soundness.{sound}
+use Rattle.recovery.specs.declared.Latent.TheVariants.{Agrees, Error}
+use Rattle.recovery.specs.Soundness.{sound, step_of}
 
 -- "Latent test: error exactly if the absolute value of (base - figure, modulo 2^64, signed) exceeds the difference"
 unfoldable pub latent_error : State → Bool
@@ -26,21 +27,18 @@ rebased s =
       base = figure s.counters s.setup.paths;
     }
 
--- the call `latent_reset`: "state not sound" is 14, and then "state and buffers keep their values"
-unfoldable pub latent_reset_of : State → Changed
-latent_reset_of s =
-    cond (sound s)
-    (record { change = change.Done; state = rebased s })
-    (record { change = change.Refused 14; state = s })
+-- the call `latent_reset`
+unfoldable pub latent_reset_of : State → Stepped Unit
+latent_reset_of s = step_of s (record { answer = Ok tt; state = rebased s })
 
 -- the call `latent_test`: "state not sound" is 14; "no state changes"
-unfoldable pub latent_test_of : State → Latent
-latent_test_of s = cond (sound s) (cond (latent_error s) latent.Error latent.Agrees) (latent.Refused 14)
+unfoldable pub latent_test_of : State → Result Latent Refusal
+latent_test_of s = cond (sound s) (Ok (cond (latent_error s) Error Agrees)) (Err Unsound)
 
 -- the promises: of `State::latent_reset`
-abbrev pub LatentResets : State → Changed → Type 0
+abbrev pub LatentResets : State → Stepped Unit → Type 0
 LatentResets s r = r ≡ latent_reset_of s
 
 -- of `State::latent_test`
-abbrev pub LatentTests : State → Latent → Type 0
+abbrev pub LatentTests : State → Result Latent Refusal → Type 0
 LatentTests s r = r ≡ latent_test_of s

@@ -1,5 +1,5 @@
 -- A packet by its rule, and the next state (document 01, "Numbering and recovery", and CR 7). Assumes nothing.
-use Rattle.std.specs.Prelude.{ℕ, ◌≡◌, Bool, false, cond}
+use Rattle.std.specs.Prelude.{ℕ, ◌≡◌, Bool, false, cond, Ok}
 use Rattle.setup.specs.Range.{is_vector}
 use Rattle.rules.specs.declared.Effect.{Effect}
 use Rattle.rules.specs.NoNumber.{unnumbered}
@@ -10,9 +10,10 @@ use Rattle.counters.specs.Counting.{counted}
 use Rattle.recovery.specs.declared.State.{State}
 use Rattle.recovery.specs.declared.Packet.{Packet}
 use Rattle.recovery.specs.declared.Packet.TheVariants.{Numbered, Tagless}
-use Rattle.recovery.specs.declared.Heard.{Heard}
-use Rattle.recovery.specs.declared.Verdict.TheVariants.{Pass, Discard, Refused}
-use Rattle.recovery.specs.Soundness.{sound}
+use Rattle.recovery.specs.declared.Stepped.{Stepped}
+use Rattle.recovery.specs.declared.Verdict.{Verdict}
+use Rattle.recovery.specs.declared.Verdict.TheVariants.{Pass, Discard}
+use Rattle.recovery.specs.Soundness.{step_of}
 use Rattle.recovery.specs.Timer.{restarted}
 
 -- a packet with a number: "take-any", else by the rule of the setup
@@ -30,10 +31,10 @@ staying s = record { first = s.first; holes = 0 }
 
 -- the verdict and the whole next state, of the state, its next take-any, how many packets had no number, what becomes of the first place,
 -- and what the packet does
-unfoldable pub settled : State → Bool → ℕ → Traced → Effect → Heard
+unfoldable pub settled : State → Bool → ℕ → Traced → Effect → Stepped Verdict
 settled s take_any tagless trace effect =
     record {
-      verdict = cond effect.passes Pass Discard;
+      answer = Ok (cond effect.passes Pass Discard);
       state = record {
         setup = s.setup;
         newest = effect.newest;
@@ -47,14 +48,14 @@ settled s take_any tagless trace effect =
     }
 
 -- a packet at a sound state; one with a number leaves take-any off
-unfoldable pub heard : State → Packet → Heard
+unfoldable pub heard : State → Packet → Stepped Verdict
 heard s (Numbered number) = settled s false 0 (tracing s number) (numbered s number)
 heard s Tagless = settled s s.take_any 1 (staying s) (unnumbered s.setup.taken s.newest s.marks)
 
--- the call `packet`: "state not sound" is 14, and then "state and buffers keep their values"
-unfoldable pub packet_of : State → Packet → Heard
-packet_of s packet = cond (sound s) (heard s packet) (record { verdict = Refused 14; state = s })
+-- the call `packet`
+unfoldable pub packet_of : State → Packet → Stepped Verdict
+packet_of s packet = step_of s (heard s packet)
 
 -- the promise of `State::packet`
-abbrev pub Hears : State → Packet → Heard → Type 0
+abbrev pub Hears : State → Packet → Stepped Verdict → Type 0
 Hears s packet r = r ≡ packet_of s packet

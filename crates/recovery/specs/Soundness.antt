@@ -1,11 +1,13 @@
 -- Which states are sound (document 01, "Numbering and recovery", and CR 7). Assumes nothing.
-use Rattle.std.specs.Prelude.{◌-◌, ◌≡◌, Bool, cond, not, ◌&&◌, ◌||◌, leb, eqb}
+use Rattle.std.specs.Prelude.{◌-◌, ◌≡◌, Bool, cond, not, ◌&&◌, ◌||◌, leb, eqb, Err}
+use Rattle.octets.specs.declared.Refusal.TheVariants.{Unsound}
 use Rattle.setup.specs.declared.Setup.{Setup}
-use Rattle.setup.specs.Range.{checked, is_vector, full_of}
+use Rattle.setup.specs.Range.{in_range, is_vector, full_of}
 use Rattle.marks.specs.declared.Marks.{Marks}
 use Rattle.marks.specs.Window.{mark, clear_from}
 use Rattle.rules.specs.declared.First.{First}
 use Rattle.recovery.specs.declared.State.{State}
+use Rattle.recovery.specs.declared.Stepped.{Stepped}
 
 -- "take-any means newest 65,535 and no mark; otherwise ticks left are 1 or more, and mark 0 is set under vector"
 unfoldable pub awaits : State → Bool
@@ -18,7 +20,7 @@ awaits s =
 -- "All else answers 14", a setup out of range with it: "inside a state a bad one is 14"
 unfoldable pub parts_agree : State → Bool
 parts_agree s =
-    eqb (checked s.setup) 0
+    in_range s.setup
     && clear_from s.setup.history s.marks
     && awaits s
     && (is_vector s.setup || clear_from 0 s.marks)
@@ -33,6 +35,10 @@ keeps_first setup marks take_any first =
 -- a sound state is both
 unfoldable pub sound : State → Bool
 sound s = parts_agree s && keeps_first s.setup s.marks s.take_any s.first
+
+-- a step of a call: "state not sound" is 14, and then "state and buffers keep their values"
+abbrev pub step_of : {A : Type 0} → State → Stepped A → Stepped A
+step_of s step = cond (sound s) step (record { answer = Err Unsound; state = s })
 
 -- the promise of `State::is_sound`
 abbrev pub TellsSound : State → Bool → Type 0

@@ -2,19 +2,18 @@
 -- not) to the next". Each of its steps is one call, of which only that call's promise is known. The demand itself is the claim
 -- `PlacesAccounted`, at the end, which proofs/Places proves; what a place is, and which are passed, lost and open, is said in
 -- `specs/Places` of the room `rules`. Assumes nothing.
-use Rattle.std.specs.Prelude.{ℕ, ◌+◌, ◌<◌, ◌≡◌, true, cond, List, [], ◌∷◌, eqb, length}
+use Rattle.std.specs.Prelude.{ℕ, ◌+◌, ◌<◌, ◌≡◌, true, cond, List, [], ◌∷◌, eqb, length, Result, Ok}
+use Rattle.octets.specs.declared.Refusal.{Refusal}
 use Rattle.setup.specs.declared.Setup.{Setup}
 use Rattle.setup.specs.Range.{is_vector}
 use Rattle.recovery.specs.declared.State.{State}
-use Rattle.recovery.specs.declared.Begun.TheVariants.{Ready}
+use Rattle.recovery.specs.declared.Stepped.{Stepped}
 use Rattle.recovery.specs.declared.Packet.{Packet}
 use Rattle.recovery.specs.declared.Packet.TheVariants.{Numbered, Tagless}
-use Rattle.recovery.specs.declared.Heard.{Heard}
+use Rattle.recovery.specs.declared.Verdict.{Verdict}
 use Rattle.recovery.specs.declared.Verdict.TheVariants.{Pass, Discard}
-use Rattle.recovery.specs.declared.Timed.{Timed}
+use Rattle.recovery.specs.declared.Ticked.{Ticked}
 use Rattle.recovery.specs.declared.Ticked.TheVariants.{Reset}
-use Rattle.recovery.specs.declared.Changed.{Changed}
-use Rattle.recovery.specs.declared.Change.TheVariants.{Done}
 use Rattle.recovery.specs.declared.Latent.{Latent}
 use Rattle.recovery.specs.Resets.{Begins, Resets}
 use Rattle.recovery.specs.Packets.{Hears}
@@ -26,9 +25,9 @@ use Rattle.rules.specs.Places.{passes, passed, lost, before_first, lost_above, P
 
 -- the state that a fresh start, a reset or a timeout hands back
 pub data Starts : State → Type 0 where
-  fresh : (setup : Setup) {s : State} → Begins setup (Ready s) → Starts s
-  reset : (s : State) {r : Changed} → Resets s r → r.change ≡ Done → Starts r.state
-  timeout : (s : State) {r : Timed} → Times s r → r.ticked ≡ Reset → Starts r.state
+  fresh : (setup : Setup) {s : State} → Begins setup (Ok s) → Starts s
+  reset : (s : State) {r : Stepped Unit} → Resets s r → r.answer ≡ Ok tt → Starts r.state
+  timeout : (s : State) {r : Stepped Ticked} → Times s r → r.answer ≡ Ok Reset → Starts r.state
 
 -- a packet's number has 16 bits
 abbrev pub SixteenBits : Packet → Type 0
@@ -39,13 +38,13 @@ SixteenBits Tagless = Unit
 -- resets and latent tests
 pub data Span (start : State) : List Packet → State → Type 0 where
   starts : Starts start → Span start [] start
-  hears : {packets : List Packet} {s : State} {p : Packet} {r : Heard} →
+  hears : {packets : List Packet} {s : State} {p : Packet} {r : Stepped Verdict} →
       Span start packets s → SixteenBits p → Hears s p r → Span start (p ∷ packets) r.state
-  ticks : {packets : List Packet} {s : State} {r : Timed} →
-      Span start packets s → Times s r → (r.ticked ≡ Reset → ⊥) → Span start packets r.state
-  latent-resets : {packets : List Packet} {s : State} {r : Changed} →
+  ticks : {packets : List Packet} {s : State} {r : Stepped Ticked} →
+      Span start packets s → Times s r → (r.answer ≡ Ok Reset → ⊥) → Span start packets r.state
+  latent-resets : {packets : List Packet} {s : State} {r : Stepped Unit} →
       Span start packets s → LatentResets s r → Span start packets r.state
-  latent_tests : {packets : List Packet} {s : State} {r : Latent} →
+  latent_tests : {packets : List Packet} {s : State} {r : Result Latent Refusal} →
       Span start packets s → LatentTests s r → Span start packets s
 
 -- the numbers of the numbered packets
@@ -63,8 +62,8 @@ taken setup (Tagless ∷ older) = taken setup older + cond (eqb setup.taken 1) 1
 -- the demand of the state after the packets, with `places` those that the places' rule lets pass
 pub record Accounted (h : ℕ) (places : List ℕ) (start : State) (packets : List Packet) (s : State) : Type 0 where
   -- "A numbered packet passes exactly if ..": the next one gets the verdict that the places say, whatever its number
-  pub next : (number : ℕ) (r : Heard) → number < 65536 → Hears s (Numbered number) r
-      → r.verdict ≡ cond (passes h places number) Pass Discard
+  pub next : (number : ℕ) (r : Stepped Verdict) → number < 65536 → Hears s (Numbered number) r
+      → r.answer ≡ Ok (cond (passes h places number) Pass Discard)
   -- "stored passed and lost grow by these counts modulo 2^64, passed also by packets taken without a number"
   pub passed_grown : Grown start.counters.passed (length places + taken start.setup packets) s.counters.passed
   pub lost_grown : Grown start.counters.lost (lost h places) s.counters.lost

@@ -1,12 +1,13 @@
 -- The timer: when a packet restarts it, and the tick (document 01, "Numbering and recovery", and CR 2). Assumes nothing.
-use Rattle.std.specs.Prelude.{ℕ, ◌-◌, ◌≡◌, Bool, cond, ◌||◌, eqb}
+use Rattle.std.specs.Prelude.{ℕ, ◌-◌, ◌≡◌, Bool, cond, ◌||◌, eqb, Ok}
 use Rattle.setup.specs.declared.Setup.{Setup}
 use Rattle.setup.specs.Range.{is_individual, full_of}
 use Rattle.recovery.specs.declared.Left.{Left}
 use Rattle.recovery.specs.declared.State.{State}
-use Rattle.recovery.specs.declared.Timed.{Timed}
-use Rattle.recovery.specs.declared.Ticked.TheVariants as ticked
-use Rattle.recovery.specs.Soundness.{sound}
+use Rattle.recovery.specs.declared.Stepped.{Stepped}
+use Rattle.recovery.specs.declared.Ticked.{Ticked}
+use Rattle.recovery.specs.declared.Ticked.TheVariants.{Tick, Reset}
+use Rattle.recovery.specs.Soundness.{step_of}
 use Rattle.recovery.specs.Resets.{reset_state}
 
 -- "Only a passed packet sets ticks left to full ticks", and by CR 2 "In individual use a discarded packet also restarts the timer; in
@@ -29,20 +30,20 @@ with_left left s =
     }
 
 -- "Tick: 0 stays 0; from 1 it becomes 0 and a reset follows; else less 1"
-unfoldable pub timed : State → Timed
+unfoldable pub timed : State → Stepped Ticked
 timed s =
     cond (eqb s.left.0 0)
-    (record { ticked = ticked.Tick; state = s })
+    (record { answer = Ok Tick; state = s })
     (cond (eqb s.left.0 1)
-    (record { ticked = ticked.Reset; state = reset_state (with_left 0 s) })
-    (record { ticked = ticked.Tick; state = with_left (s.left.0 - 1) s }))
+    (record { answer = Ok Reset; state = reset_state (with_left 0 s) })
+    (record { answer = Ok Tick; state = with_left (s.left.0 - 1) s }))
 
--- the call `tick`: "state not sound" is 14, and then "state and buffers keep their values"
-unfoldable pub tick_of : State → Timed
-tick_of s = cond (sound s) (timed s) (record { ticked = ticked.Refused 14; state = s })
+-- the call `tick`
+unfoldable pub tick_of : State → Stepped Ticked
+tick_of s = step_of s (timed s)
 
 -- the promises: of `State::tick`
-abbrev pub Times : State → Timed → Type 0
+abbrev pub Times : State → Stepped Ticked → Type 0
 Times s r = r ≡ tick_of s
 
 -- of `Left::count`

@@ -1,43 +1,43 @@
 // The latent reset and the latent test of a state.
 ghost use Rattle.recovery.specs.LatentErrors.{LatentResets, LatentTests};
 
-use crate::{Change, Changed, Latent, State};
+use crate::{Latent, State, Stepped};
+use octets::Refusal;
 
 impl State {
     // Base = figure, latent-resets +1.
-    pub fn latent_reset(mut self) -> Changed
+    #[tactic(auto, unfolding(crate::specs::LatentErrors::latent_reset_of, crate::specs::LatentErrors::rebased))]
+    pub fn latent_reset(mut self) -> Stepped<()>
         ensures { LatentResets self result }
     {
         if !self.is_sound() {
-            return Changed {
-                change: Change::Refused(14),
+            return Stepped {
+                answer: Err(Refusal::Unsound),
                 state: self,
             };
         }
-        let figure = counters::figure(self.counters, self.setup.paths);
-        self.base = figure;
+        self.base = counters::figure(self.counters, self.setup.paths);
         self.counters = counters::count_latent_reset(self.counters);
-        Changed {
-            change: Change::Done,
+        Stepped {
+            answer: Ok(()),
             state: self,
         }
     }
 
     // Error exactly if base and figure are further apart than the difference.
-    pub fn latent_test(self) -> Latent
+    #[tactic(auto, unfolding(crate::specs::LatentErrors::latent_test_of, crate::specs::LatentErrors::latent_error))]
+    pub fn latent_test(self) -> Result<Latent, Refusal>
         ensures { LatentTests self result }
     {
         if !self.is_sound() {
-            return Latent::Refused(14);
+            return Err(Refusal::Unsound);
         }
-        if counters::latent_error(
+        let error = counters::latent_error(
             self.base,
             self.counters,
             self.setup.paths,
             self.setup.difference,
-        ) {
-            return Latent::Error;
-        }
-        Latent::Agrees
+        );
+        Ok(if error { Latent::Error } else { Latent::Agrees })
     }
 }

@@ -1,6 +1,6 @@
 // Recovery of one stream (document 01, "Numbering and recovery"): the recovery state with both rules, its timer and counters, and the
 // latent error test. "each step takes the state and hands the next one back": a state goes in by `self` and the next one comes back. Each
-// call takes any value at all and answers or refuses by the paper's number; a refused step hands the state back as it was.
+// call takes any value at all and answers or refuses; a refused step hands the state back as it was.
 #![tactic(auto)]
 
 mod latent_errors;
@@ -12,6 +12,7 @@ mod timer;
 
 use counters::Counters;
 use marks::Marks;
+use octets::Refusal;
 use rules::First;
 use setup::Setup;
 
@@ -36,12 +37,6 @@ pub struct State {
 }
 
 #[derive(Clone, Copy)]
-pub enum Begun {
-    Ready(State),
-    Refused(u8),
-}
-
-#[derive(Clone, Copy)]
 pub enum Packet {
     Numbered(u16),
     Tagless,
@@ -51,13 +46,6 @@ pub enum Packet {
 pub enum Verdict {
     Pass,
     Discard,
-    Refused(u8),
-}
-
-#[derive(Clone, Copy)]
-pub struct Heard {
-    pub verdict: Verdict,
-    pub state: State,
 }
 
 // A tick that timed out is a reset.
@@ -65,30 +53,17 @@ pub struct Heard {
 pub enum Ticked {
     Tick,
     Reset,
-    Refused(u8),
-}
-
-#[derive(Clone, Copy)]
-pub struct Timed {
-    pub ticked: Ticked,
-    pub state: State,
-}
-
-#[derive(Clone, Copy)]
-pub enum Change {
-    Done,
-    Refused(u8),
-}
-
-#[derive(Clone, Copy)]
-pub struct Changed {
-    pub change: Change,
-    pub state: State,
 }
 
 #[derive(Clone, Copy)]
 pub enum Latent {
     Agrees,
     Error,
-    Refused(u8),
+}
+
+// What a step answers, and the next state.
+#[derive(Clone, Copy)]
+pub struct Stepped<A> {
+    pub answer: Result<A, Refusal>,
+    pub state: State,
 }

@@ -2,8 +2,9 @@
 ghost use Rattle.std.specs.Prelude.{◌≡◌};
 ghost use Rattle.recovery.specs.Resets.{cleared, reset_state, Begins, Resets};
 
-use crate::{Begun, Change, Changed, Left, State};
+use crate::{Left, State, Stepped};
 use counters::Counters;
+use octets::Refusal;
 use rules::First;
 use setup::Setup;
 
@@ -11,16 +12,13 @@ use setup::Setup;
 fn clear(setup: Setup, counters: Counters, base: u64) -> State
     ensures { result ≡ cleared setup counters base }
 {
-    let left = Left(0);
-    let marks = marks::none();
-    let first = First(0);
     State {
         setup,
         newest: 65535,
-        marks,
-        first,
+        marks: marks::none(),
+        first: First(0),
         take_any: true,
-        left,
+        left: Left(0),
         counters,
         base,
     }
@@ -28,14 +26,12 @@ fn clear(setup: Setup, counters: Counters, base: u64) -> State
 
 impl State {
     // A state that counts no reset yet, or the setup's refusal.
-    pub fn fresh(setup: Setup) -> Begun
+    #[tactic(auto, unfolding(crate::specs::Resets::begun_from, crate::specs::Resets::fresh_state))]
+    pub fn fresh(setup: Setup) -> Result<State, Refusal>
         ensures { Begins setup result }
     {
-        let refusal = setup.check();
-        if refusal != 0 {
-            return Begun::Refused(refusal);
-        }
-        Begun::Ready(clear(setup, counters::none(), 0))
+        setup.check()?;
+        Ok(clear(setup, counters::none(), 0))
     }
 
     // The reset itself, of the call and of a timeout.
@@ -46,19 +42,19 @@ impl State {
         clear(self.setup, counters::count_reset(self.counters), self.base)
     }
 
-    pub fn reset(mut self) -> Changed
+    #[tactic(auto, unfolding(crate::specs::Resets::reset_of))]
+    pub fn reset(self) -> Stepped<()>
         ensures { Resets self result }
     {
         if !self.is_sound() {
-            return Changed {
-                change: Change::Refused(14),
+            return Stepped {
+                answer: Err(Refusal::Unsound),
                 state: self,
             };
         }
-        self = self.anew();
-        Changed {
-            change: Change::Done,
-            state: self,
+        Stepped {
+            answer: Ok(()),
+            state: self.anew(),
         }
     }
 }

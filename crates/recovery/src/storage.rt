@@ -21,14 +21,13 @@ impl State {
     ) -> State
         ensures { Stores setup newest marks first take_any left counters base result }
     {
-        let left = Left(left);
         State {
             setup,
             newest,
             marks,
             first,
             take_any,
-            left,
+            left: Left(left),
             counters,
             base,
         }

@@ -5,6 +5,7 @@ use mathlib.Core.Bool.{Bool}
 use Rattle.octets.proofs.Unique.{one}
 use Rattle.marks.specs.declared.Marks.{Marks}
 use Rattle.rules.specs.declared.Effect.{Effect}
+use Rattle.rules.specs.declared.Window.{Window}
 use Rattle.rules.specs.NoNumber.{HearsNoNumber}
 use Rattle.rules.specs.TakeAny.{HearsFirst}
 use Rattle.rules.specs.Vector.{HearsVector}
@@ -30,10 +31,8 @@ module _ {a b : Effect} where
       → HearsMatch newest marks number b → a ≡ b
   hears_match_one newest marks number = one
 
-  pub hears_numbered_one : (rule h : ℕ) (take_any : Bool) (newest : ℕ) (marks : Marks) (number : ℕ)
-      → HearsNumbered rule h take_any newest marks number a → HearsNumbered rule h take_any newest marks number b → a ≡ b
-  hears_numbered_one rule h take_any newest marks number = one
+  pub hears_numbered_one : (w : Window) (number : ℕ) → HearsNumbered w number a → HearsNumbered w number b → a ≡ b
+  hears_numbered_one w number = one
 
-pub traces_first_one : (vector : Bool) (h : ℕ) (take_any : Bool) (newest : ℕ) (marks : Marks) (first : First) (now : ℕ) {a b : Traced}
-    → TracesFirst vector h take_any newest marks first now a → TracesFirst vector h take_any newest marks first now b → a ≡ b
-traces_first_one vector h take_any newest marks first now = one
+pub traces_first_one : (w : Window) (first : First) (now : ℕ) {a b : Traced} → TracesFirst w first now a → TracesFirst w first now b → a ≡ b
+traces_first_one w first now = one

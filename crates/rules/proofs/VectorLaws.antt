@@ -36,19 +36,16 @@ apart_self number = let turn : number + 65536 - number ≡ 65536 = omega arith i
 pub apart_ahead : (newest number k : ℕ) → difference newest number ≡ ahead k → (apart newest number ≡ k) × (1 ≤ k)
 unfolding difference signed
 apart_ahead newest number k =
-    either leads (eqb far 0) (λ _ e. absurd (omega (arith, behind_ahead e)))
+    either leads (eqb far 0) (λ _ e. cc)
     (λ some. either leads (ltb far 32768)
     (λ _ e. let same : far ≡ k = cc in (same, omega (arith, eqb-false far 0 some)))
-    (λ _ e. absurd (omega (arith, behind_ahead e))))
+    (λ _ e. cc))
   where
     far : ℕ
     far = apart newest number
 
     leads : Difference → Type 0
     leads d = d ≡ ahead k → (far ≡ k) × (1 ≤ k)
-
-    behind_ahead : {j : ℕ} → behind j ≡ ahead k → ◌≡◌ {A = ℕ} 0 1
-    behind_ahead e = cc
 
 -- the rule from d
 module _ (h newest : ℕ) (marks : Marks) (number k : ℕ) where

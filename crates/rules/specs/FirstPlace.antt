@@ -5,6 +5,7 @@ use Rattle.marks.specs.Window.{most, moved, lost_by}
 use Rattle.marks.specs.Meaning.{clear_among}
 use Rattle.rules.specs.declared.First.{First}
 use Rattle.rules.specs.declared.Traced.{Traced}
+use Rattle.rules.specs.declared.Window.{Window}
 use Rattle.rules.specs.Difference.{apart}
 use Rattle.rules.specs.Places.{moved_on}
 
@@ -59,6 +60,6 @@ traced vector h take_any newest marks first now =
     (record { first = opened vector; holes = 0 })
     (record { first = carried h (apart newest now) first; holes = holes_in h (apart newest now) first marks })
 
--- the promise of `trace`
-abbrev pub TracesFirst : Bool → ℕ → Bool → ℕ → Marks → First → ℕ → Traced → Type 0
-TracesFirst vector h take_any newest marks first now r = r ≡ traced vector h take_any newest marks first now
+-- the promise of `Window::trace`
+abbrev pub TracesFirst : Window → First → ℕ → Traced → Type 0
+TracesFirst w first now r = r ≡ traced (eqb w.rule 0) w.history w.take_any w.newest w.marks first now

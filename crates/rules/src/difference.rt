@@ -3,6 +3,7 @@ ghost use Rattle.std.specs.Prelude.{◌≡◌};
 ghost use Rattle.rules.specs.Difference.{apart};
 
 // Right across 65,535 too.
+#[tactic(auto, unfolding(crate::specs::Difference::apart))]
 pub(crate) fn apart_by(newest: u16, number: u16) -> u32
     ensures { result ≡ apart newest number }
 {

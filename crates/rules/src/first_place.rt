@@ -3,10 +3,10 @@ ghost use Rattle.std.specs.Prelude.{◌≡◌, ◌-◌, ◌≤◌, ◌<◌, min}
 ghost use Rattle.rules.specs.FirstPlace.{nth, opened, carried, TracesFirst};
 
 use crate::difference::apart_by;
-use crate::{First, Traced};
-use marks::Marks;
+use crate::{First, Traced, Window};
 
 // The first packet's place is the newest, under vector only.
+#[tactic(auto, unfolding(crate::specs::FirstPlace::opened))]
 fn open(vector: bool) -> First
     ensures { result ≡ opened vector }
 {
@@ -34,43 +34,32 @@ fn carry(history: u16, n: u16, d: u32) -> First
 fn leaving_below(history: u16, n: u16, d: u32) -> u32
     ensures { result ≡ min d (history - n) }
 {
-    if n < history {
-        let below = (history - n) as u32;
-        if d < below { d } else { below }
-    } else {
-        0
-    }
+    let below = history.saturating_sub(n) as u32;
+    d.min(below)
 }
 
-// `newest` and the marks are those before the packet, and `now` is the newest number after it.
-pub fn trace(
-    vector: bool,
-    history: u16,
-    take_any: bool,
-    newest: u16,
-    marks: Marks,
-    first: First,
-    now: u16,
-) -> Traced
-    ensures { TracesFirst vector history take_any newest marks first now result }
-{
-    if take_any {
-        let opened = open(vector);
-        return Traced {
-            first: opened,
-            holes: 0,
-        };
-    }
-    let n = first.0;
-    if (n == 0) | (now == newest) {
-        return Traced { first, holes: 0 };
-    }
-    let d = apart_by(newest, now);
-    let left = leaving_below(history, n, d);
-    let early = marks::slide(marks, history as u32, left);
-    let carried = carry(history, n, d);
-    Traced {
-        first: carried,
-        holes: early.lost,
+impl Window {
+    // `first` is the first place before the packet, and `now` the newest number after it.
+    pub fn trace(self, first: First, now: u16) -> Traced
+        ensures { TracesFirst self first now result }
+    {
+        if self.take_any {
+            return Traced {
+                first: open(self.rule == 0),
+                holes: 0,
+            };
+        }
+        let n = first.0;
+        if (n == 0) | (now == self.newest) {
+            return Traced { first, holes: 0 };
+        }
+        let d = apart_by(self.newest, now);
+        let left = leaving_below(self.history, n, d);
+        let early = marks::slide(self.marks, self.history as u32, left);
+        let carried = carry(self.history, n, d);
+        Traced {
+            first: carried,
+            holes: early.lost,
+        }
     }
 }

@@ -15,6 +15,17 @@ mod vector;
 
 use marks::Marks;
 
+// What a packet with a number finds: its rule, the history length, and of the state all that the rule asks. Any values may stand here.
+#[derive(Clone, Copy)]
+pub struct Window {
+    // the rule: 0 vector, else match; a number, as in a setup, since any may be handed in
+    pub rule: u8,
+    pub history: u16,
+    pub take_any: bool,
+    pub newest: u16,
+    pub marks: Marks,
+}
+
 // The counts are what the packet adds.
 #[derive(Clone, Copy)]
 pub struct Effect {
@@ -38,8 +49,6 @@ pub struct Traced {
     pub holes: u64,
 }
 
-pub use by_rule::hear_numbered;
-pub use first_place::trace;
 pub use matching::hear_match;
 pub use no_number::hear_no_number;
 pub use take_any::hear_first;

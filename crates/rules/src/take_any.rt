@@ -7,6 +7,7 @@ use crate::effects::accept;
 use marks::Marks;
 
 // Mark 0 set under vector only.
+#[tactic(auto, unfolding(crate::specs::TakeAny::first_marks))]
 fn first_marks(vector: bool) -> Marks
     ensures { result ≡ first_marks vector }
 {
@@ -14,6 +15,7 @@ fn first_marks(vector: bool) -> Marks
     if vector { marks::set(bare, 0) } else { bare }
 }
 
+#[tactic(auto, unfolding(crate::specs::TakeAny::first))]
 pub fn hear_first(vector: bool, number: u16) -> Effect
     ensures { HearsFirst vector number result }
 {

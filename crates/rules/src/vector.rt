@@ -9,6 +9,7 @@ use crate::effects::{accept, discard};
 use marks::Marks;
 
 // d <= 0, as k = -d.
+#[tactic(auto, using(std::proofs::lemmas::Bool::Decides::nat_tests), unfolding(crate::specs::Vector::late))]
 fn hear_behind(history: u32, newest: u16, marks: Marks, k: u32) -> Effect
     ensures { result ≡ cond (leb history k) (discarded newest marks 1) (late newest marks k) }
 {
@@ -22,6 +23,7 @@ fn hear_behind(history: u32, newest: u16, marks: Marks, k: u32) -> Effect
 }
 
 // d > 0.
+#[tactic(auto, using(std::proofs::lemmas::Bool::Decides::nat_tests, octets::proofs::Bools::one_unless), unfolding(crate::specs::Vector::onward))]
 fn hear_ahead(history: u32, newest: u16, marks: Marks, number: u16, d: u32) -> Effect
     ensures { result ≡ cond (leb history d) (discarded newest marks 1) (onward history number marks d) }
 {

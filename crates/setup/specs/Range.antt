@@ -1,6 +1,8 @@
 -- A setup and its check (document 01, "Numbering and recovery" and "When the layer says no"). Assumes nothing.
-use Rattle.std.specs.Prelude.{ℕ, ◌≡◌, Bool, not, ◌&&◌, List, [], ◌∷◌, leb, eqb}
-use Rattle.octets.specs.Checks.{Check, ◌⇒◌, verdict, refusal}
+use Rattle.std.specs.Prelude.{ℕ, ◌≡◌, Bool, not, ◌&&◌, List, [], ◌∷◌, leb, eqb, Result, is_ok}
+use Rattle.octets.specs.declared.Refusal.{Refusal}
+use Rattle.octets.specs.declared.Refusal.TheVariants.{NoRule, HistoryRange, TimeoutRange, RateRange, PathsRange, TakenOrUse}
+use Rattle.octets.specs.Checks.{Check, ◌⇒◌, Verdict, verdict, answered}
 use Rattle.setup.specs.declared.Setup.{Setup}
 use Rattle.setup.specs.declared.Ticks.{Ticks}
 use Rattle.setup.specs.Values.{setup_of}
@@ -16,18 +18,26 @@ within lo hi n = leb lo n && leb n hi
 -- gets a use: sequence or individual", behind taken: "0 sequence, 1 individual, else 27"; by CR 4 "Raise H to 512; refusal 16 .. follow"
 unfoldable pub setup_checks : Setup → List Check
 setup_checks setup =
-    not (leb setup.rule 1) ⇒ 15
-    ∷ not (leb setup.taken 1) ⇒ 27
-    ∷ not (leb setup.usage 1) ⇒ 27
-    ∷ not (within 2 512 setup.history) ⇒ 16
-    ∷ not (within 1 3600000 setup.timeout.0) ⇒ 17
-    ∷ not (within 1 10000 setup.rate) ⇒ 18
-    ∷ not (within 2 8 setup.paths) ⇒ 19
+    not (leb setup.rule 1) ⇒ NoRule
+    ∷ not (leb setup.taken 1) ⇒ TakenOrUse
+    ∷ not (leb setup.usage 1) ⇒ TakenOrUse
+    ∷ not (within 2 512 setup.history) ⇒ HistoryRange
+    ∷ not (within 1 3600000 setup.timeout.0) ⇒ TimeoutRange
+    ∷ not (within 1 10000 setup.rate) ⇒ RateRange
+    ∷ not (within 2 8 setup.paths) ⇒ PathsRange
     ∷ []
 
--- the refusal's number, and 0 where there is none
-unfoldable pub checked : Setup → ℕ
-checked setup = refusal (verdict (setup_checks setup))
+-- what they come to
+unfoldable pub checked : Setup → Verdict
+checked setup = verdict (setup_checks setup)
+
+-- the check's answer
+abbrev pub check_of : Setup → Result Unit Refusal
+check_of setup = answered (checked setup) tt
+
+-- "setup in range": nothing is refused
+abbrev pub in_range : Setup → Bool
+in_range setup = is_ok (check_of setup)
 
 -- "rule (0 vector, 1 match)"
 unfoldable pub is_vector : Setup → Bool
@@ -42,13 +52,13 @@ abbrev pub full_of : Setup → Ticks
 full_of setup = ticks_of setup.timeout setup.rate
 
 -- the promises: of `check_numbers`, whatever the latent difference is: "0 to 2^32-1" is what its field holds
-abbrev pub ChecksNumbers : (rule taken usage history milliseconds rate paths : ℕ) → ℕ → Type 0
+abbrev pub ChecksNumbers : (rule taken usage history milliseconds rate paths : ℕ) → Result Unit Refusal → Type 0
 ChecksNumbers rule taken usage history milliseconds rate paths r =
-    (difference : ℕ) → r ≡ checked (setup_of rule taken usage history milliseconds rate paths difference)
+    (difference : ℕ) → r ≡ check_of (setup_of rule taken usage history milliseconds rate paths difference)
 
 -- of `Setup::check`
-abbrev pub ChecksSetup : Setup → ℕ → Type 0
-ChecksSetup setup r = r ≡ checked setup
+abbrev pub ChecksSetup : Setup → Result Unit Refusal → Type 0
+ChecksSetup setup r = r ≡ check_of setup
 
 -- of `Setup::full`
 abbrev pub GivesFull : Setup → Ticks → Type 0

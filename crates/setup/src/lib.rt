@@ -19,7 +19,7 @@ pub struct Ticks(u64);
 // Any values may stand in the fields; `check` says which are in range.
 #[derive(Clone, Copy)]
 pub struct Setup {
-    // 0 vector, 1 match
+    // 0 vector, 1 match. Rule, taken and use are numbers and no enums: any that a caller hands in stand here, and `check` refuses them.
     pub rule: u8,
     // whether packets without a number are taken: 0 or 1
     pub taken: u8,

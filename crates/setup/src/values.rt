@@ -16,13 +16,12 @@ impl Setup {
     ) -> Setup
         ensures { Makes rule taken usage history milliseconds rate paths difference result }
     {
-        let timeout = Milliseconds(milliseconds);
         Setup {
             rule,
             taken,
             usage,
             history,
-            timeout,
+            timeout: Milliseconds(milliseconds),
             rate,
             paths,
             difference,

@@ -2,15 +2,14 @@
 ghost use Rattle.setup.specs.Values.{setup_of};
 ghost use Rattle.setup_c.specs.Setups.{ConvertsTo, ChecksSetupTo};
 
-use setup::{Milliseconds, Setup, Ticks};
+use setup::{Milliseconds, Setup};
 
 // Full ticks of a timeout.
 #[unsafe(no_mangle)]
 pub extern "C" fn ahz_ticks(milliseconds: u32, rate: u16) -> u64
     ensures { ConvertsTo milliseconds rate result }
 {
-    let ticks = Milliseconds(milliseconds).ticks(rate);
-    ticks.count()
+    Milliseconds(milliseconds).ticks(rate).count()
 }
 
 // The verdict on a setup.
@@ -37,5 +36,5 @@ pub extern "C" fn ahz_check_setup_v2(
         paths,
         difference,
     );
-    setup.check()
+    words::code(setup.check())
 }

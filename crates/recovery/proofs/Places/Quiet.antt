@@ -1,8 +1,10 @@
 -- A tick that does not time out and a latent reset leave all that the places speak of. Assumes nothing.
+use Rattle.std.specs.Prelude.{Ok}
 use mathlib.Core.Path.{◌≡◌, refl, ap}
 use mathlib.Core.Bool.{true}
 use Rattle.recovery.specs.declared.State.{State}
-use Rattle.recovery.specs.declared.Timed.{Timed}
+use Rattle.recovery.specs.declared.Stepped.{Stepped}
+use Rattle.recovery.specs.declared.Ticked.{Ticked}
 use Rattle.recovery.specs.declared.Ticked.TheVariants.{Reset}
 use Rattle.recovery.specs.Soundness.{sound}
 use Rattle.recovery.specs.Timer.{tick_of}
@@ -21,9 +23,9 @@ Alike s next =
     × (next.counters.lost ≡ s.counters.lost)
     × (next.counters.before_first ≡ s.counters.before_first)
 
-pub tick_alike : (s : State) → sound s ≡ true → ((tick_of s).ticked ≡ Reset → ⊥) → Alike s (tick_of s).state
+pub tick_alike : (s : State) → sound s ≡ true → ((tick_of s).answer ≡ Ok Reset → ⊥) → Alike s (tick_of s).state
 tick_alike s ok on =
-    let more : s.left.0 ≡ 1 → ⊥ = λ one. on (ap (λ (r : Timed). r.ticked) (timeout_tick s ok one)) in
+    let more : s.left.0 ≡ 1 → ⊥ = λ one. on (ap (λ (r : Stepped Ticked). r.answer) (timeout_tick s ok one)) in
     rw (quiet_tick s ok more) (refl, refl, refl, refl, refl, refl, refl, refl)
 
 pub latent_alike : (s : State) → Alike s (rebased s)

@@ -1,5 +1,6 @@
 -- What the state keeps over a span: it is sound, its setup is the start's, and its newest number, marks and counters stand for the places.
 -- Assumes nothing.
+use Rattle.std.specs.Prelude.{Ok}
 use mathlib.Core.Path.{◌≡◌, refl, ap, ◌∙◌}
 use mathlib.Core.Bool.{Bool, true, cond}
 use mathlib.Core.List.{List, []}
@@ -11,7 +12,8 @@ use lib.ListN.{length}
 use Rattle.setup.specs.declared.Setup.{Setup}
 use Rattle.recovery.specs.declared.State.{State}
 use Rattle.recovery.specs.declared.Packet.TheVariants.{Numbered, Tagless}
-use Rattle.recovery.specs.declared.Heard.{Heard}
+use Rattle.recovery.specs.declared.Stepped.{Stepped}
+use Rattle.recovery.specs.declared.Verdict.{Verdict}
 use Rattle.recovery.specs.declared.Verdict.TheVariants.{Pass, Discard}
 use Rattle.recovery.specs.declared.Ticked.TheVariants.{Reset}
 use Rattle.marks.specs.Window.{most}
@@ -25,7 +27,7 @@ use Rattle.rules.specs.FirstPlace.{standing_after}
 use Rattle.rules.specs.Places.{passes, after, lost, before_first}
 use Rattle.counters.specs.Growth.{Grown}
 use Rattle.counters.proofs.Growth.{packets_grow, grown_more}
-use Rattle.setup.proofs.InRange.{in_range}
+use Rattle.setup.proofs.InRange.{ranges}
 use Rattle.recovery.proofs.SoundLaws.{Sound, sound_says}
 use Rattle.recovery.proofs.SoundCalls.{packet_answers, tick_answers, latent_reset_answers}
 use Rattle.recovery.proofs.SoundKept.{heard_sound, timed_sound, rebased_sound}
@@ -63,7 +65,7 @@ module _ (start : State) (rule : is_vector start.setup ≡ true) where
 
     -- all that the places ask of the history length
     pub range : (1 ≤ h) × (h ≤ most)
-    range = omega (arith, rw track.same_setup at (in_range s.setup ok.in_range).history)
+    range = omega (arith, rw track.same_setup at (ranges s.setup ok.in_range).history)
 
     same_history : s.setup.history ≡ h
     same_history = ap (λ (c : Setup). c.history) track.same_setup
@@ -75,12 +77,12 @@ module _ (start : State) (rule : is_vector start.setup ≡ true) where
     numbered_there number bits =
         numbered_obeys s h ps number same_history (rw track.same_setup rule) range.0 range.1 bits track.stands
 
-    pub verdict_there : (number : ℕ) (r : Heard) → number < 65536 → Hears s (Numbered number) r
-        → r.verdict ≡ cond (passes h ps number) Pass Discard
+    pub verdict_there : (number : ℕ) (r : Stepped Verdict) → number < 65536 → Hears s (Numbered number) r
+        → r.answer ≡ Ok (cond (passes h ps number) Pass Discard)
     unfolding heard settled
     verdict_there number r bits e =
         rw (e, packet_answers s track.still_sound (Numbered number))
-        (ap (λ (t : Bool). cond t Pass Discard) (numbered_there number bits).verdict)
+        (ap (λ (t : Bool). Ok (cond t Pass Discard)) (numbered_there number bits).verdict)
 
     pub numbered_tracks : (number : ℕ) → number < 65536 → Tracks start (after h ps number) tags (packet_of s (Numbered number)).state
     unfolding heard settled
@@ -134,7 +136,7 @@ module _ (start : State) (rule : is_vector start.setup ≡ true) where
           before_grown = rw same.7 track.before_grown;
         }
 
-    pub tick_tracks : ((tick_of s).ticked ≡ Reset → ⊥) → Tracks start ps tags (tick_of s).state
+    pub tick_tracks : ((tick_of s).answer ≡ Ok Reset → ⊥) → Tracks start ps tags (tick_of s).state
     tick_tracks on =
         alike_tracks (tick_of s).state (tick_alike s track.still_sound on) (rw (tick_answers s track.still_sound) (timed_sound s ok))
 

@@ -1,5 +1,5 @@
 -- The checks in the paper's order, from the last to the first.
-use Rattle.octets.specs.Checks.{verdict, refusal}
+use Rattle.octets.specs.Checks.{Verdict, verdict, answered}
 use Rattle.octets.proofs.Order.{first_check}
 use Rattle.setup.specs.Range.{setup_checks, checked}
 use Rattle.setup.proofs.range.check_numbers.Goals as goal
@@ -20,4 +20,4 @@ returns c difference =
       c.unless-from_paths.ensures,
       c.within.ensures,
     )
-    (simp (first_check refusal))
+    (simp (first_check (λ (v : Verdict). answered v (tt {0}))))
