@@ -1,12 +1,12 @@
-// What a call on a recovery state answers, whichever call it is, and the answer as one number.
+// What a call on a recovery state answers, whichever call it is, and the answer or the refusal as one number.
 #![tactic(auto)]
 
 mod numbers;
 
-pub use numbers::number_of;
+pub use numbers::{code, number_of};
 
 // A tick that timed out is a timeout.
-#[derive(Clone, Copy)]
+#[derive(Clone, Copy, Debug, PartialEq, Eq)]
 pub enum Answer {
     Pass,
     Discard,
@@ -16,5 +16,4 @@ pub enum Answer {
     LatentReset,
     Agrees,
     Error,
-    Refused(u8),
 }

@@ -1,20 +1,28 @@
 // An answer as one number, as the doors for C give it.
-ghost use Rattle.answers.specs.Numbers.{Numbers};
+ghost use Rattle.answers.specs.Numbers.{Numbers, Codes};
 
 use crate::Answer;
+use octets::Refusal;
 
-pub fn number_of(answer: Answer) -> u8
+// The number of an answer, or what is handed in for a refusal's: any number may be.
+pub fn number_of(answer: Result<Answer, u8>) -> u8
     ensures { Numbers answer result }
 {
     match answer {
-        Answer::Pass => 109,
-        Answer::Discard => 110,
-        Answer::Tick => 111,
-        Answer::Timeout => 112,
-        Answer::Reset => 0,
-        Answer::LatentReset => 0,
-        Answer::Agrees => 113,
-        Answer::Error => 114,
-        Answer::Refused(number) => number,
+        Ok(Answer::Pass) => 109,
+        Ok(Answer::Discard) => 110,
+        Ok(Answer::Tick) => 111,
+        Ok(Answer::Timeout) => 112,
+        Ok(Answer::Reset | Answer::LatentReset) => 0,
+        Ok(Answer::Agrees) => 113,
+        Ok(Answer::Error) => 114,
+        Err(number) => number,
     }
+}
+
+// The same of an answer or a refusal.
+pub fn code(answer: Result<Answer, Refusal>) -> u8
+    ensures { Codes answer result }
+{
+    number_of(answer.map_err(Refusal::number))
 }

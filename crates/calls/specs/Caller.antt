@@ -1,30 +1,22 @@
 -- A caller that only hands back what it was given: a list of calls, each on the state that the last one returned. The claims about it are
 -- `SoundKept`, `NeverRefused` (proofs/NeverRefused) and `UnsoundStays` (proofs/UnsoundStays). Assumes nothing.
-use Rattle.std.specs.Prelude.{ℕ, ◌≡◌, true, false, List, [], ◌∷◌, map}
+use Rattle.std.specs.Prelude.{◌≡◌, true, false, List, [], ◌∷◌, map, Option, None, Result, Ok}
+use Rattle.std.specs.Result.{result_err}
+use Rattle.octets.specs.declared.Refusal.{Refusal}
 use Rattle.setup.specs.declared.Setup.{Setup}
 use Rattle.recovery.specs.declared.State.{State}
-use Rattle.recovery.specs.declared.Begun.TheVariants.{Ready}
 use Rattle.recovery.specs.Soundness.{sound}
 use Rattle.recovery.specs.Resets.{Begins}
 use Rattle.calls.specs.declared.Call.{Call}
 use Rattle.answers.specs.declared.Answer.{Answer}
-use Rattle.answers.specs.declared.Answer.TheVariants.{Pass, Discard, Tick, Timeout, Reset, LatentReset, Agrees, Error, Refused}
 use Rattle.calls.specs.Answering.{answered}
 
--- the refusal's number in an answer, and 0 where there is none
-abbrev pub refusal_in : Answer → ℕ
-refusal_in Pass = 0
-refusal_in Discard = 0
-refusal_in Tick = 0
-refusal_in Timeout = 0
-refusal_in Reset = 0
-refusal_in LatentReset = 0
-refusal_in Agrees = 0
-refusal_in Error = 0
-refusal_in (Refused n) = n
+-- the refusal in an answer, where there is one
+abbrev pub refusal_in : Result Answer Refusal → Option Refusal
+refusal_in answer = result_err answer
 
--- the number by which a call on a state is refused, and 0 where it is not
-unfoldable pub refusal : State → Call → ℕ
+-- the refusal of a call on a state
+unfoldable pub refusal : State → Call → Option Refusal
 refusal s call = refusal_in (answered s call).answer
 
 -- the state that a call hands back: "each step takes the state and hands the next one back"
@@ -32,18 +24,18 @@ unfoldable pub after : State → Call → State
 after s call = (answered s call).state
 
 -- the refusals of the calls, in turn
-unfoldable pub refusals : State → List Call → List ℕ
+unfoldable pub refusals : State → List Call → List (Option Refusal)
 refusals s [] = []
 refusals s (call ∷ calls) = refusal s call ∷ refusals (after s call) calls
 
 -- no call on a sound state is refused, and it hands a sound state back
 abbrev pub SoundKept : Type 0
-SoundKept = (s : State) → sound s ≡ true → (call : Call) → (refusal s call ≡ 0) × (sound (after s call) ≡ true)
+SoundKept = (s : State) → sound s ≡ true → (call : Call) → (refusal s call ≡ None) × (sound (after s call) ≡ true)
 
 -- so from a fresh state on the caller never sees 14, nor any other refusal
 abbrev pub NeverRefused : Type 0
 NeverRefused =
-    (setup : Setup) (s : State) → Begins setup (Ready s) → (calls : List Call) → refusals s calls ≡ map (λ (call : Call). 0) calls
+    (setup : Setup) (s : State) → Begins setup (Ok s) → (calls : List Call) → refusals s calls ≡ map (λ (call : Call). None) calls
 
 -- "state and buffers keep their values": a state that is not sound comes back as it was, whatever the call
 abbrev pub UnsoundStays : Type 0

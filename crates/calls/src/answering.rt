@@ -1,18 +1,18 @@
 // What each call on a state answers.
-ghost use Rattle.std.specs.Prelude.{◌≡◌};
-ghost use Rattle.calls.specs.Answering.{of_verdict, of_ticked, of_change, of_latent, Answers};
+ghost use Rattle.std.specs.Prelude.{◌≡◌, IsOkAnd, Err, MatchResult};
+ghost use Rattle.calls.specs.Answering.{of_verdict, of_ticked, of_latent, Answers};
 
-use crate::{Call, Called};
+use crate::Call;
 use answers::Answer;
-use recovery::{Change, Latent, State, Ticked, Verdict};
+use recovery::{Latent, State, Stepped, Ticked, Verdict};
 
+// What each answer of recovery is as one of the common kind. A From could stand in neither room, since neither knows the other.
 fn of_verdict(verdict: Verdict) -> Answer
     ensures { result ≡ of_verdict verdict }
 {
     match verdict {
         Verdict::Pass => Answer::Pass,
         Verdict::Discard => Answer::Discard,
-        Verdict::Refused(number) => Answer::Refused(number),
     }
 }
 
@@ -22,16 +22,6 @@ fn of_ticked(ticked: Ticked) -> Answer
     match ticked {
         Ticked::Tick => Answer::Tick,
         Ticked::Reset => Answer::Timeout,
-        Ticked::Refused(number) => Answer::Refused(number),
-    }
-}
-
-fn of_change(done: Answer, change: Change) -> Answer
-    ensures { result ≡ of_change done change }
-{
-    match change {
-        Change::Done => done,
-        Change::Refused(number) => Answer::Refused(number),
     }
 }
 
@@ -41,52 +31,32 @@ fn of_latent(latent: Latent) -> Answer
     match latent {
         Latent::Agrees => Answer::Agrees,
         Latent::Error => Answer::Error,
-        Latent::Refused(number) => Answer::Refused(number),
     }
 }
 
-pub fn take(state: State, call: Call) -> Called
+// A step, its answer as one of the common kind.
+fn as_answer<A, F: FnOnce(A) -> Answer>(step: Stepped<A>, kind: F) -> Stepped<Answer>
+    requires { F.IsAlwaysCallable kind }
+    ensures answer { MatchResult step.answer (λ a. IsOkAnd result.answer (F.post kind a)) (λ refusal. result.answer ≡ Err refusal) }
+    ensures state { result.state ≡ step.state }
+{
+    let state = step.state;
+    Stepped {
+        answer: step.answer.map(kind),
+        state,
+    }
+}
+
+pub fn take(state: State, call: Call) -> Stepped<Answer>
     ensures { Answers state call result }
 {
     match call {
-        Call::Packet(packet) => {
-            let heard = state.packet(packet);
-            let verdict = heard.verdict;
-            let next = heard.state;
-            Called {
-                answer: of_verdict(verdict),
-                state: next,
-            }
-        }
-        Call::Tick => {
-            let timed = state.tick();
-            let ticked = timed.ticked;
-            let next = timed.state;
-            Called {
-                answer: of_ticked(ticked),
-                state: next,
-            }
-        }
-        Call::Reset => {
-            let changed = state.reset();
-            let change = changed.change;
-            let next = changed.state;
-            Called {
-                answer: of_change(Answer::Reset, change),
-                state: next,
-            }
-        }
-        Call::LatentReset => {
-            let changed = state.latent_reset();
-            let change = changed.change;
-            let next = changed.state;
-            Called {
-                answer: of_change(Answer::LatentReset, change),
-                state: next,
-            }
-        }
-        Call::LatentTest => Called {
-            answer: of_latent(state.latent_test()),
+        Call::Packet(packet) => as_answer(state.packet(packet), of_verdict),
+        Call::Tick => as_answer(state.tick(), of_ticked),
+        Call::Reset => as_answer(state.reset(), |()| Answer::Reset),
+        Call::LatentReset => as_answer(state.latent_reset(), |()| Answer::LatentReset),
+        Call::LatentTest => Stepped {
+            answer: state.latent_test().map(of_latent),
             state,
         },
     }

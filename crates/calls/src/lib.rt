@@ -5,8 +5,7 @@
 mod answering;
 
 pub use answering::take;
-use answers::Answer;
-use recovery::{Packet, State};
+use recovery::Packet;
 
 #[derive(Clone, Copy)]
 pub enum Call {
@@ -15,11 +14,4 @@ pub enum Call {
     Reset,
     LatentReset,
     LatentTest,
-}
-
-// The answer, and the next state.
-#[derive(Clone, Copy)]
-pub struct Called {
-    pub answer: Answer,
-    pub state: State,
 }

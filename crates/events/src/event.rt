@@ -2,11 +2,13 @@
 ghost use Rattle.std.specs.Prelude.{◌≡◌};
 ghost use Rattle.events.specs.Event.{known as is_known, Lasts, Refuses};
 
+use octets::Refusal;
+
 #[tactic(auto, unfolding(crate::specs::Event::known))]
 fn known(kind: u8) -> bool
     ensures { result ≡ is_known kind }
 {
-    ((1 <= kind) & (kind <= 6)) | (kind == 15)
+    matches!(kind, 1..=6 | 15)
 }
 
 // The octets behind an event's kind.
@@ -14,28 +16,27 @@ fn known(kind: u8) -> bool
 pub fn width(kind: u8) -> usize
     ensures { Lasts kind result }
 {
-    if kind == 1 {
-        2
-    } else if kind == 15 {
-        16
-    } else {
-        0
+    match kind {
+        1 => 2,
+        15 => 16,
+        _ => 0,
     }
 }
 
-// The number of the first check that an event does not meet, and 0 where it meets all.
-pub fn refused(tape: &[u8], at: usize, begun: bool) -> u8
+// The first check that an event does not meet.
+#[tactic(auto, using(crate::proofs::KnownKinds::known_within), unfolding(crate::specs::Event::checks, octets::specs::Checks::verdict))]
+pub fn refused(tape: &[u8], at: usize, begun: bool) -> Result<(), Refusal>
     ensures { Refuses tape.now at begun result }
 {
     let kind = octets::octet(tape, at);
     if !known(kind) {
-        return 23;
+        return Err(Refusal::EventKind);
     }
     if tape.len() - at <= width(kind) {
-        return 24;
+        return Err(Refusal::EventCut);
     }
     if (begun & (kind == 15)) | (!begun & (kind != 15)) {
-        return 25;
+        return Err(Refusal::SetupMisplaced);
     }
-    0
+    Ok(())
 }

@@ -7,8 +7,8 @@ mod words;
 
 pub use page::{counts, fault, write};
 
-// The line of an event.
-#[derive(Drop)]
+// The line of an event, in the order of the words that lines are made of.
+#[derive(Clone, Copy, Debug, PartialEq, Eq)]
 pub enum Line {
     Ok,
     Pass,

@@ -41,7 +41,7 @@ pub fn write(line: Line, page: &mut [u8], at: usize) -> usize
     }
 }
 
-// The line of a fault.
+// The line of a fault. It takes a number and no refusal: any number has its line.
 pub fn fault(number: u8, page: &mut [u8], at: usize) -> usize
     ensures { WritesLine (fault_text number) page.old at result page.new }
 {
@@ -59,10 +59,8 @@ pub fn counts(counters: [u64; 9], page: &mut [u8], at: usize) -> usize
 {
     if has_room(page.len(), at) {
         let mut end = at;
-        let mut i = 0;
-        while i < 9 {
+        for i in 0..9 {
             end = count(LABELS + i, counters[i], page, end);
-            i += 1;
         }
         word(NEWLINE, page, end)
     } else {

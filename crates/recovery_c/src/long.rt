@@ -5,22 +5,20 @@ ghost use Rattle.calls.specs.declared.Call.TheVariants as call;
 ghost use Rattle.recovery_c.specs.Recoveries.{StepsTo, TestsTo};
 
 use calls::Call;
+use octets::Refusal;
 use recovery::Packet;
-use states::Held;
 
 // The call is made on the state that the words hold, and the next state's words take their place.
 fn step(call: Call, state: &mut [u64]) -> u8
     ensures { StepsTo call state.old result state.new }
 {
     match states::read(state) {
-        Held::State(s) => {
-            let called = calls::take(s, call);
-            let answer = called.answer;
-            let next = called.state;
-            states::keep(next, state);
-            answers::number_of(answer)
+        Some(s) => {
+            let step = calls::take(s, call);
+            states::keep(step.state, state);
+            answers::code(step.answer)
         }
-        Held::Nothing => 14,
+        None => Refusal::Unsound.number(),
     }
 }
 
@@ -60,12 +58,8 @@ pub(crate) fn step_apart(call: Call, state: &mut [u64]) -> u8
     ensures { StepsTo call state.old result state.new }
 {
     match call {
-        Call::Packet(packet) => {
-            match packet {
-                Packet::Numbered(number) => numbered(state, number),
-                Packet::Tagless => tagless(state),
-            }
-        }
+        Call::Packet(Packet::Numbered(number)) => numbered(state, number),
+        Call::Packet(Packet::Tagless) => tagless(state),
         Call::Tick => tick(state),
         Call::Reset => reset(state),
         Call::LatentReset => latent_reset(state),
@@ -77,11 +71,7 @@ pub(crate) fn latent_test(state: &[u64]) -> u8
     ensures { TestsTo state.now result }
 {
     match states::read(state) {
-        Held::State(s) => {
-            let called = calls::take(s, Call::LatentTest);
-            let answer = called.answer;
-            answers::number_of(answer)
-        }
-        Held::Nothing => 14,
+        Some(s) => answers::code(calls::take(s, Call::LatentTest).answer),
+        None => Refusal::Unsound.number(),
     }
 }

@@ -1,17 +1,20 @@
 // The calls on a recovery state ("Numbering and recovery", document 01) for C: words are lent, the step is taken on the state that the
 // first of them hold, and the next state's words take their place. Words that hold no sound state are 14.
+ghost use Rattle.std.specs.Prelude.{◌≡◌, Some};
+ghost use Rattle.octets.specs.Copy.{output_by};
+ghost use Rattle.octets.specs.Checks.{verdict, answered};
 ghost use Rattle.setup.specs.Values.{setup_of};
 ghost use Rattle.recovery.specs.declared.Packet.TheVariants as packet;
 ghost use Rattle.calls.specs.declared.Call.TheVariants as call;
-ghost use Rattle.states.specs.declared.Held.TheVariants as held_in;
-ghost use Rattle.states.specs.Fields.{ReadsShort};
-ghost use Rattle.recovery_c.specs.Recoveries.{BeginsTo, StepsTo, TestsTo};
+ghost use Rattle.recovery.specs.Resets.{fresh_state};
+ghost use Rattle.states.specs.Fields.{words_of, ReadsShort};
+ghost use Rattle.recovery_c.specs.Recoveries.{begin_checks, BeginsTo, StepsTo, TestsTo};
 
 use crate::long;
 use calls::Call;
-use recovery::{Begun, Packet, State};
+use octets::Refusal;
+use recovery::{Packet, State};
 use setup::Setup;
-use states::Held;
 
 // A fresh state, written to the first words.
 #[unsafe(no_mangle)]
@@ -28,19 +31,17 @@ pub extern "C" fn ahz_fresh_v4(
 ) -> u8
     ensures { BeginsTo (setup_of rule taken usage history milliseconds rate paths difference) state.old result state.new }
 {
-    begin_in(
-        Setup::of(
-            rule,
-            taken,
-            usage,
-            history,
-            milliseconds,
-            rate,
-            paths,
-            difference,
-        ),
-        state,
-    )
+    let setup = Setup::of(
+        rule,
+        taken,
+        usage,
+        history,
+        milliseconds,
+        rate,
+        paths,
+        difference,
+    );
+    words::code(begin_in(setup, state))
 }
 
 // A packet with a number.
@@ -49,8 +50,8 @@ pub extern "C" fn ahz_numbered(state: &mut [u64], number: u16) -> u8
     ensures { StepsTo (call.Packet (packet.Numbered number)) state.old result state.new }
 {
     match states::read_short(state) {
-        Held::State(s) => step_short(s, Call::Packet(Packet::Numbered(number)), state),
-        Held::Nothing => long::numbered(state, number),
+        Some(s) => step_short(s, Call::Packet(Packet::Numbered(number)), state),
+        None => long::numbered(state, number),
     }
 }
 
@@ -88,38 +89,36 @@ pub extern "C" fn ahz_latent_test(state: &[u64]) -> u8
     ensures { TestsTo state.now result }
 {
     match states::read_short(state) {
-        Held::State(s) => {
-            let called = calls::take(s, Call::LatentTest);
-            let answer = called.answer;
-            answers::number_of(answer)
-        }
-        Held::Nothing => long::latent_test(state),
+        Some(s) => answers::code(calls::take(s, Call::LatentTest).answer),
+        None => long::latent_test(state),
     }
 }
 
-fn begin_in(setup: Setup, state: &mut [u64]) -> u8
-    ensures { BeginsTo setup state.old result state.new }
+#[tactic(auto, using(crate::proofs::Told::setup_refused), unfolding(crate::specs::Recoveries::begin_checks, recovery::specs::Resets::begun_from, setup::specs::Range::checked))]
+fn begin_in(setup: Setup, state: &mut [u64]) -> Result<(), Refusal>
+    ensures answer { result ≡ answered (verdict (begin_checks setup state.old)) tt }
+    ensures words { state.new ≡ output_by (verdict (begin_checks setup state.old)) (words_of (fresh_state setup)) state.old }
 {
-    match State::fresh(setup) {
-        Begun::Ready(s) => { if states::keep(s, state) { 0 } else { 8 } }
-        Begun::Refused(no) => no,
+    let fresh = State::fresh(setup)?;
+    if states::keep(fresh, state) {
+        Ok(())
+    } else {
+        Err(Refusal::OutputShort)
     }
 }
 
 // A step on the short state that the words hold: the words of its marks past the first are not touched. A state that is not sound is asked
 // before, though the call asks too, so that there is one way to 14, which writes nothing (docs/MEASURES.md).
 fn step_short(s: State, call: Call, state: &mut [u64]) -> u8
-    requires { ReadsShort state.old (held_in.State s) }
+    requires { ReadsShort state.old (Some s) }
     ensures { StepsTo call state.old result state.new }
 {
     if !s.is_sound() {
-        return 14;
+        return Refusal::Unsound.number();
     }
-    let called = calls::take(s, call);
-    let answer = called.answer;
-    let next = called.state;
-    states::keep_short(next, state);
-    answers::number_of(answer)
+    let step = calls::take(s, call);
+    states::keep_short(step.state, state);
+    answers::code(step.answer)
 }
 
 // The way of every step but that of a packet with a number, which is taken most: a short state has one of its own, and any other one that
@@ -128,8 +127,8 @@ fn step_in(call: Call, state: &mut [u64]) -> u8
     ensures { StepsTo call state.old result state.new }
 {
     match states::read_short(state) {
-        Held::State(s) => step_short(s, call, state),
-        Held::Nothing => {
+        Some(s) => step_short(s, call, state),
+        None => {
             // what is handed on lies in memory, and the call itself need not
             let again = call;
             long::step_apart(again, state)

@@ -1,3 +1,4 @@
+pub mod Front
 pub mod SameWords
 pub mod ReadLaws
 pub mod ShortLaws

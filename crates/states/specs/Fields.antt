@@ -2,7 +2,7 @@
 -- with CR 2's use behind taken, and "State: setup, newest number, H marks .., take-any, ticks left, eight 64-bit counters .. and a latent
 -- base", with the first place of CR 7 behind the marks and its counter behind the eight. A state is the first words of what is lent, and
 -- later words stay, as the paper has it of an output's octets. Assumes nothing.
-use Rattle.std.specs.Prelude.{ℕ, ◌<◌, ◌≤◌, ◌≡◌, Bool, cond, ◌&&◌, List, [], ◌∷◌, length, get_or, ltb, leb, eqb}
+use Rattle.std.specs.Prelude.{ℕ, ◌<◌, ◌≤◌, ◌≡◌, Bool, cond, ◌&&◌, List, [], ◌∷◌, length, get_or, ltb, leb, eqb, Option, Some, None}
 use Rattle.octets.specs.Copy.{Puts}
 use Rattle.setup.specs.declared.Setup.{Setup}
 use Rattle.setup.specs.Values.{setup_of}
@@ -11,10 +11,8 @@ use Rattle.marks.specs.Window.{bits}
 use Rattle.rules.specs.FirstPlace.{nth}
 use Rattle.counters.specs.declared.Counters.{Counters}
 use Rattle.recovery.specs.declared.State.{State}
-use Rattle.setup.specs.Range.{checked}
+use Rattle.setup.specs.Range.{in_range}
 use Rattle.recovery.specs.Storage.{stored_state}
-use Rattle.states.specs.declared.Held.{Held}
-use Rattle.states.specs.declared.Held.TheVariants as held_in
 
 -- what the first word says of the others: "AHZ" in octets and a 4, 41485A04 in hex. Words of another kind or order get another; those with
 -- a 1 had no use, those with a 2 no first place, and those with a 3 one word of marks
@@ -148,21 +146,21 @@ none_past w =
 
 -- words that hold a state whose setup is in range; no other is sound
 abbrev pub ready : List ℕ → Bool
-ready w = held w && eqb (checked (setup_in w)) 0
+ready w = held w && in_range (setup_in w)
 
 -- the promises: of `read`, the state of such words
-abbrev pub ReadsState : List ℕ → Held → Type 0
-ReadsState w r = r ≡ cond (ready w) (held_in.State (state_of w)) held_in.Nothing
+abbrev pub ReadsState : List ℕ → Option State → Type 0
+ReadsState w r = r ≡ cond (ready w) (Some (state_of w)) None
 
 -- a history that has no more marks than a word, and those past it clear
 abbrev pub short : List ℕ → Bool
 short w = leb (word 4 w) bits && none_past w
 
 -- of `read_short`, the same where that is so
-abbrev pub ReadsShort : List ℕ → Held → Type 0
-ReadsShort w r = r ≡ cond (short w && ready w) (held_in.State (state_of w)) held_in.Nothing
+abbrev pub ReadsShort : List ℕ → Option State → Type 0
+ReadsShort w r = r ≡ cond (short w && ready w) (Some (state_of w)) None
 
--- of `keep`: the state's words are put, as `put` of `words` puts any
+-- of `keep`: the state's words are put, as `put` of `octets` puts any
 abbrev pub Keeps : State → List ℕ → Bool → List ℕ → Type 0
 Keeps s = Puts (words_of s)
 

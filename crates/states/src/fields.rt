@@ -1,21 +1,27 @@
 // Which words hold a state, the state of such words, and the words of a state.
-ghost use Rattle.std.specs.Prelude.{◌≡◌, cond, ◌≤◌, length, eqb};
-ghost use Rattle.setup.specs.Range.{checked};
+ghost use Rattle.std.specs.Prelude.{◌≡◌, ◌<◌, length, MatchOption};
+ghost use Rattle.std.specs.Array.{IsFirstChunk};
+ghost use Rattle.setup.specs.Range.{in_range};
 ghost use Rattle.states.specs.Fields.{Holds, fields_fit, none_past, setup_in, marks_in, counters_in, state_of, words_of};
 ghost use Rattle.states.specs.Fields.{short_in, ReadsState, ReadsShort, Keeps, KeepsShort};
 
-use crate::Held;
 use counters::Counters;
 use marks::Marks;
 use recovery::State;
 use rules::First;
 use setup::{Milliseconds, Setup};
 
-// How many words a state has.
-const WORDS: usize = 31;
+// The words of a state.
+type Words = [u64; 31];
 
-fn fields_fit(state: &[u64]) -> bool
-    requires { 31 ≤ length state.now }
+// The first of what is lent, where there are enough.
+fn first_words(state: &[u64]) -> Option<&Words>
+    ensures { MatchOption result (length state.now < 31) (λ words. IsFirstChunk state.now words.now 31) }
+{
+    state.first_chunk()
+}
+
+fn fields_fit(state: &Words) -> bool
     ensures { result ≡ fields_fit state.now }
 {
     (state[0] == 1095260676)
@@ -32,7 +38,7 @@ fn fields_fit(state: &[u64]) -> bool
         & (state[19] < 2)
 }
 
-fn setup_in(state: &[u64]) -> Setup
+fn setup_in(state: &Words) -> Setup
     requires { Holds state.now }
     ensures { result ≡ setup_in state.now }
 {
@@ -49,8 +55,7 @@ fn setup_in(state: &[u64]) -> Setup
     }
 }
 
-fn counters_in(state: &[u64]) -> Counters
-    requires { 31 ≤ length state.now }
+fn counters_in(state: &Words) -> Counters
     ensures { result ≡ counters_in state.now }
 {
     Counters {
@@ -66,8 +71,7 @@ fn counters_in(state: &[u64]) -> Counters
     }
 }
 
-fn marks_in(state: &[u64]) -> Marks
-    requires { 31 ≤ length state.now }
+fn marks_in(state: &Words) -> Marks
     ensures { result ≡ marks_in state.now }
 {
     Marks {
@@ -82,7 +86,7 @@ fn marks_in(state: &[u64]) -> Marks
     }
 }
 
-fn unpack(state: &[u64], marks: Marks) -> State
+fn unpack(state: &Words, marks: Marks) -> State
     requires holds { Holds state.now }
     requires marks_value { marks ≡ marks_in state.now }
     ensures { result ≡ state_of state.now }
@@ -97,13 +101,13 @@ fn unpack(state: &[u64], marks: Marks) -> State
     State::stored(setup, newest, marks, first, take_any, left, counters, base)
 }
 
-fn setup_fits(state: &[u64]) -> bool
-    requires { 31 ≤ length state.now }
-    ensures { result ≡ eqb (checked (setup_in state.now)) 0 }
+fn setup_fits(state: &Words) -> bool
+    ensures { result ≡ in_range (setup_in state.now) }
 {
     setup::check_numbers(
         state[1], state[2], state[3], state[4], state[5], state[6], state[7],
-    ) == 0
+    )
+    .is_ok()
 }
 
 // The state that the words hold where its setup is in range, its marks handed in. The setup is checked first, on the words as they are,
@@ -111,36 +115,32 @@ fn setup_fits(state: &[u64]) -> bool
 // new, and the compiler leaves these tests out. The use is asked by itself before: of three flags in one test the compiler would ask two
 // again (docs/MEASURES.md).
 #[tactic(auto, using(crate::proofs::ReadLaws::no_use))]
-fn read_with(state: &[u64], marks: Marks) -> Held
-    requires in_bounds { 31 ≤ length state.now }
-    requires marks_value { marks ≡ marks_in state.now }
+fn read_with(state: &Words, marks: Marks) -> Option<State>
+    requires { marks ≡ marks_in state.now }
     ensures { ReadsState state.now result }
 {
     if 1 < state[3] {
-        return Held::Nothing;
+        return None;
     }
     if !setup_fits(state) {
-        return Held::Nothing;
+        return None;
     }
     if !fields_fit(state) {
-        return Held::Nothing;
+        return None;
     }
-    Held::State(unpack(state, marks))
+    Some(unpack(state, marks))
 }
 
 // The state that the words hold, where its setup is in range. Whether it is sound is what every call on it asks first.
-pub fn read(state: &[u64]) -> Held
+pub fn read(state: &[u64]) -> Option<State>
     ensures { ReadsState state.now result }
 {
-    if state.len() < WORDS {
-        return Held::Nothing;
-    }
-    read_with(state, marks_in(state))
+    let words = first_words(state)?;
+    read_with(words, marks_in(words))
 }
 
 // Whether the words of the marks past the first are 0.
-fn none_past_the_first(state: &[u64]) -> bool
-    requires { 31 ≤ length state.now }
+fn none_past_the_first(state: &Words) -> bool
     ensures { result ≡ none_past state.now }
 {
     (state[11] == 0)
@@ -154,38 +154,24 @@ fn none_past_the_first(state: &[u64]) -> bool
 
 // The same where the history has no more marks than a word and those past it are clear: the compiler knows the words past the first, and
 // no step has them in hand (docs/MEASURES.md).
-pub fn read_short(state: &[u64]) -> Held
+pub fn read_short(state: &[u64]) -> Option<State>
     ensures { ReadsShort state.now result }
 {
-    if state.len() < WORDS {
-        return Held::Nothing;
+    let words = first_words(state)?;
+    if 64 < words[4] {
+        return None;
     }
-    if 64 < state[4] {
-        return Held::Nothing;
-    }
-    if !none_past_the_first(state) {
-        return Held::Nothing;
+    if !none_past_the_first(words) {
+        return None;
     }
     let marks = Marks {
-        w0: state[10],
-        w1: 0,
-        w2: 0,
-        w3: 0,
-        w4: 0,
-        w5: 0,
-        w6: 0,
-        w7: 0,
+        w0: words[10],
+        ..marks::none()
     };
-    read_with(state, marks)
+    read_with(words, marks)
 }
 
-fn flag(set: bool) -> u64
-    ensures { result ≡ cond set 1 0 }
-{
-    if set { 1 } else { 0 }
-}
-
-fn pack(s: State) -> [u64; 31]
+fn pack(s: State) -> Words
     ensures { result ≡ words_of s }
 {
     let setup = s.setup;
@@ -221,7 +207,7 @@ fn pack(s: State) -> [u64; 31]
         marks.w6,
         marks.w7,
         first,
-        flag(s.take_any),
+        s.take_any as u64,
         s.left.count(),
         counters.passed,
         counters.discarded,
@@ -237,40 +223,30 @@ fn pack(s: State) -> [u64; 31]
 }
 
 // The state with the words of the marks past the first that are lent.
-fn over(s: State, state: &[u64]) -> State
-    requires { 31 ≤ length state.now }
+fn over(s: State, state: &Words) -> State
     ensures { result ≡ short_in state.now s }
 {
     let lent = marks_in(state);
     let marks = Marks {
         w0: s.marks.w0,
-        w1: lent.w1,
-        w2: lent.w2,
-        w3: lent.w3,
-        w4: lent.w4,
-        w5: lent.w5,
-        w6: lent.w6,
-        w7: lent.w7,
+        ..lent
     };
-    let left = s.left.count();
-    State::stored(
-        s.setup, s.newest, marks, s.first, s.take_any, left, s.counters, s.base,
-    )
+    State { marks, ..s }
 }
 
 // The words of the state in place of the first lent ones, if there is room for them all.
 pub fn keep(s: State, state: &mut [u64]) -> bool
     ensures { Keeps s state.old result state.new }
 {
-    words::put(&pack(s), state)
+    octets::put(&pack(s), state)
 }
 
 // The same but for the words of the marks past the first, which stay as they are.
 pub fn keep_short(s: State, state: &mut [u64]) -> bool
     ensures { KeepsShort s state.old result state.new }
 {
-    if state.len() < WORDS {
-        return false;
+    match first_words(state) {
+        Some(words) => keep(over(s, words), state),
+        None => false,
     }
-    keep(over(s, state), state)
 }

@@ -5,11 +5,3 @@
 mod fields;
 
 pub use fields::{keep, keep_short, read, read_short};
-use recovery::State;
-
-// What lent words hold.
-#[derive(Clone, Copy)]
-pub enum Held {
-    State(State),
-    Nothing,
-}

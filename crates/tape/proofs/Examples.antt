@@ -16,6 +16,7 @@ use Rattle.rules.specs.TakeAny.{first_marks, first}
 use Rattle.rules.specs.ByRule.{by_rule}
 use Rattle.counters.specs.LatentErrors.{less, absolute, figure, exceeds}
 use Rattle.recovery.specs.LatentErrors.{latent_error, latent_test_of}
+use Rattle.octets.specs.Refusals.{number as number_of}
 use Rattle.octets.specs.Checks.{verdict}
 use Rattle.lines.specs.Lines.{decimal_in, text, fault_text, labels, counted as listed, counters_text}
 use Rattle.events.specs.Event.{known, width, checks}
@@ -24,7 +25,7 @@ use Rattle.tape.specs.Player.{figures, lines_from, played, tape_checks, output_o
 use Rattle.tape.specs.Examples.{setup_for, setup, stuck, cases, AsPrinted}
 
 pub as_printed : AsPrinted
-unfolding be16 be32 value_of number word_in marks_of mark none clear_from set reach moved lost_by slid lost_in full_ticks ticks_of setup_checks
+unfolding number_of be16 be32 value_of number word_in marks_of mark none clear_from set reach moved lost_by slid lost_in full_ticks ticks_of setup_checks
     checked is_vector is_individual plus fresh_state begun_from awaits parts_agree keeps_first sound apart signed difference late onward
     by_difference vector restarted timed tick_of reset_state reset_counted by_rule numbered first_marks first opened carried hole_by holes_in traced
     tracing counted settled heard packet_of less absolute figure exceeds latent_error latent_test_of cases setup_for setup stuck output_of

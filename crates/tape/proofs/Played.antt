@@ -1,9 +1,12 @@
 -- A tape while it is played: what the page holds, and what is still to come. Assumes nothing.
+use Rattle.std.specs.Prelude.{Option, Some, None, Ok, Err}
 use Prim.Native.Nat.{ℕ, zero, suc, ◌+◌, ◌*◌, ◌≤◌, ◌<◌}
 use native.Mathlib.Omega.{arith}
 use mathlib.Core.Path.{◌≡◌, refl, sym, ◌∙◌}
 use mathlib.Core.List.{List, [], ◌++◌, append_assoc, append-nil}
 use lib.ListN.{length, take, get_or}
+use Rattle.octets.specs.declared.Refusal.{Refusal}
+use Rattle.octets.specs.Refusals.{number}
 use Rattle.recovery.specs.declared.State.{State}
 use Rattle.counters.specs.declared.Counters.{Counters}
 use Rattle.lines.specs.declared.Line.{Line}
@@ -12,24 +15,22 @@ use Rattle.lines.specs.Page.{WritesLine}
 use Rattle.lines.proofs.Table.{line_word}
 use Rattle.lines.proofs.Room.{shown}
 use Rattle.events.specs.Event.{width}
-use Rattle.turns.specs.declared.Bench.{Bench}
-use Rattle.turns.specs.declared.Bench.TheVariants.{Waits, Running}
-use Rattle.turns.specs.declared.Outcome.TheVariants.{Next, Fault, End}
+use Rattle.turns.specs.declared.Outcome.TheVariants.{Next, End}
 use Rattle.turns.specs.Turn.{outcome_at}
 use Rattle.tape.specs.Player.{figures, lines_from, played, enough, PageHolds}
 use Rattle.tape.proofs.Turns.{next_within, next_lines, fault_lines, end_lines}
 
 -- the tape is played up to `at`, and the first n octets of the page are its lines so far
-pub record Playing (tape page : List ℕ) (at n : ℕ) (bench : Bench) : Type 0 where
+pub record Playing (tape page : List ℕ) (at n : ℕ) (bench : Option State) : Type 0 where
   pub within : at ≤ length tape
   pub short : n ≤ 13 * at
-  pub room : enough ≡ length page
+  pub room : length page ≡ enough
   -- more lines than can still come
   pub most : ℕ
   pub more : length tape < at + most
   pub texts : take n page ++ lines_from most tape at bench ≡ played tape
 
-pub starts : (tape page : List ℕ) → enough ≡ length page → Playing tape page 0 0 Waits
+pub starts : (tape page : List ℕ) → length page ≡ enough → Playing tape page 0 0 None
 unfolding played
 starts tape page e =
     record {
@@ -41,7 +42,7 @@ starts tape page e =
       texts = refl;
     }
 
-module _ {tape page : List ℕ} {at n : ℕ} {bench : Bench} (small : length tape ≤ 4096) (p : Playing tape page at n bench) where
+module _ {tape page : List ℕ} {at n : ℕ} {bench : Option State} (small : length tape ≤ 4096) (p : Playing tape page at n bench) where
   -- there is room for one line more
   pub one_more : n + longest ≤ length page
   one_more = omega (arith, p.within, p.short, p.room)
@@ -62,17 +63,17 @@ module _ {tape page : List ℕ} {at n : ℕ} {bench : Bench} (small : length tap
         texts = sym (append-nil (take r later)) ∙ joined w [] _ (e k ∙ sym (append-nil line)) texts;
       }
 
-  pub ends_faulty : {number r : ℕ} {later : List ℕ} → WritesLine (fault_text number) page n r later → outcome_at tape at bench ≡ Fault number
-      → PageHolds (played tape) r later
+  pub ends_faulty : {refusal : Refusal} {r : ℕ} {later : List ℕ} → WritesLine (fault_text (number refusal)) page n r later
+      → outcome_at tape at bench ≡ Err refusal → PageHolds (played tape) r later
   ends_faulty w e = ends_by w p.most p.more p.texts (λ k. fault_lines tape at bench k e)
 
   pub ends_well : {k : Counters} {r : ℕ} {later : List ℕ} → WritesLine (counters_text (figures k)) page n r later
-      → outcome_at tape at bench ≡ End k → PageHolds (played tape) r later
+      → outcome_at tape at bench ≡ Ok (End k) → PageHolds (played tape) r later
   ends_well w e = ends_by w p.most p.more p.texts (λ m. end_lines tape at bench m e)
 
   goes_by : (line : Line) {r : ℕ} {later : List ℕ} → WritesLine (text line) page n r later → (m : ℕ) → length tape < at + m
-      → take n page ++ lines_from m tape at bench ≡ played tape → {s : State} → outcome_at tape at bench ≡ Next line s
-      → Playing tape later (at + 1 + width (get_or tape at 0)) r (Running s)
+      → take n page ++ lines_from m tape at bench ≡ played tape → {s : State} → outcome_at tape at bench ≡ Ok (Next line s)
+      → Playing tape later (at + 1 + width (get_or tape at 0)) r (Some s)
   goes_by line w zero more texts e = absurd (omega (arith, p.within))
   goes_by line w (suc k) more texts e =
       let on = shown one_more w in
@@ -80,13 +81,13 @@ module _ {tape page : List ℕ} {at n : ℕ} {bench : Bench} (small : length tap
       record {
         within = next_within tape at bench e;
         short = omega (arith, p.short, on.ends, thirteen);
-        room = p.room ∙ sym on.same;
+        room = on.same ∙ p.room;
         most = k;
         more = omega arith;
         texts = joined w _ _ (next_lines tape at bench k e) texts;
       }
 
   pub goes : {line : Line} {r : ℕ} {later : List ℕ} → WritesLine (text line) page n r later → {s : State}
-      → outcome_at tape at bench ≡ Next line s
-      → Playing tape later (at + 1 + width (get_or tape at 0)) r (Running s)
+      → outcome_at tape at bench ≡ Ok (Next line s)
+      → Playing tape later (at + 1 + width (get_or tape at 0)) r (Some s)
   goes {line} w e = goes_by line w p.most p.more p.texts e

@@ -1,17 +1,16 @@
 -- A whole tape, and the promise of `run` (document 01, "The bench tape"). Assumes nothing.
-use Rattle.std.specs.Prelude.{ℕ, zero, suc, ◌+◌, ◌≤◌, ◌≡◌, cond, List, [], ◌∷◌, ◌++◌, length, get_or, take, ltb}
-use Rattle.octets.specs.Copy.{fits, put_in}
-use Rattle.octets.specs.Checks.{Check, ◌⇒◌, Verdict, good, refuse, verdict}
+use Rattle.std.specs.Prelude.{ℕ, zero, suc, ◌+◌, ◌≤◌, ◌≡◌, not, List, [], ◌∷◌, ◌++◌, length, get_or, take, ltb, Option, Some, None, Result, Ok, Err}
+use Rattle.octets.specs.declared.Refusal.{Refusal}
+use Rattle.octets.specs.declared.Refusal.TheVariants.{OutputShort, TapeLong}
+use Rattle.octets.specs.Refusals.{number}
+use Rattle.octets.specs.Copy.{fits, output_by}
+use Rattle.octets.specs.Checks.{Check, ◌⇒◌, Verdict, good, refuse, verdict, answered}
 use Rattle.recovery.specs.declared.State.{State}
 use Rattle.counters.specs.declared.Counters.{Counters}
 use Rattle.lines.specs.Lines.{text, fault_text, counters_text}
-use Rattle.tape.specs.declared.Written.{Written}
-use Rattle.tape.specs.declared.Written.TheVariants as written
 use Rattle.events.specs.Event.{width}
-use Rattle.turns.specs.declared.Bench.{Bench}
-use Rattle.turns.specs.declared.Bench.TheVariants.{Waits, Running}
 use Rattle.turns.specs.declared.Outcome.{Outcome}
-use Rattle.turns.specs.declared.Outcome.TheVariants.{Next, Fault, End}
+use Rattle.turns.specs.declared.Outcome.TheVariants.{Next, End}
 use Rattle.turns.specs.Turn.{outcome_at}
 
 -- "eight 64-bit counters (passed, discarded, order, rogue, lost, tagless, resets, latent-resets)", in the order of the last line, and
@@ -30,29 +29,29 @@ figures k =
     ∷ []
 
 -- an event's line, and then what follows from the next state; a fault, and the counters, end the output
-abbrev pub followed : Outcome → (State → List ℕ) → List ℕ
-followed (Next line s) rest = text line ++ rest s
-followed (Fault number) rest = fault_text number
-followed (End k) rest = counters_text (figures k)
+abbrev pub followed : Result Outcome Refusal → (State → List ℕ) → List ℕ
+followed (Ok (Next line s)) rest = text line ++ rest s
+followed (Ok (End k)) rest = counters_text (figures k)
+followed (Err refusal) rest = fault_text (number refusal)
 
 -- the lines from a place on, cut off after n of them
-unfoldable pub lines_from : ℕ → List ℕ → ℕ → Bench → List ℕ
+unfoldable pub lines_from : ℕ → List ℕ → ℕ → Option State → List ℕ
 lines_from zero tape at bench = []
 lines_from (suc n) tape at bench =
-    followed (outcome_at tape at bench) (λ (s : State). lines_from n tape (at + 1 + width (get_or tape at 0)) (Running s))
+    followed (outcome_at tape at bench) (λ (s : State). lines_from n tape (at + 1 + width (get_or tape at 0)) (Some s))
 
 -- the lines of a whole tape: an event is one octet at least, so one line more than there are octets is always enough
 unfoldable pub played : List ℕ → List ℕ
-played tape = lines_from (length tape + 1) tape 0 Waits
+played tape = lines_from (length tape + 1) tape 0 None
 
 -- "A program reads a tape of at most 4,096 octets": "tape over 4,096"; "26 is checked before all else on a tape"
 unfoldable pub tape_checks : List ℕ → List Check
-tape_checks tape = ltb 4096 (length tape) ⇒ 26 ∷ []
+tape_checks tape = ltb 4096 (length tape) ⇒ TapeLong ∷ []
 
 -- a fault of the whole tape is its one line
 abbrev pub unless_refused : Verdict → List ℕ → List ℕ
 unless_refused good output = output
-unless_refused (refuse number) output = fault_text number
+unless_refused (refuse refusal) output = fault_text (number refusal)
 
 -- the output of any tape
 unfoldable pub output_of : List ℕ → List ℕ
@@ -67,15 +66,18 @@ pub record PageHolds (text : List ℕ) (n : ℕ) (page : List ℕ) : Type 0 wher
   pub within : n ≤ length page
   pub texts : take n page ≡ text
 
--- the promise of `run`: the output at the start of the buffer, with its length; "output shorter than result" is 8, and then the buffer
--- stays as it was
-pub record Runs (tape out : List ℕ) (r : Written) (later : List ℕ) : Type 0 where
-  pub answer : r ≡ cond (fits (output_of tape) out) (written.Length (length (output_of tape))) (written.Refused 8)
-  pub buffer : later ≡ cond (fits (output_of tape) out) (put_in (output_of tape) out) out
+-- "output shorter than result"
+unfoldable pub run_checks : List ℕ → List ℕ → List Check
+run_checks tape out = not (fits (output_of tape) out) ⇒ OutputShort ∷ []
+
+-- the promise of `run`: the output at the start of the buffer, with its length; a refusal leaves the buffer as it was
+pub record Runs (tape out : List ℕ) (r : Result ℕ Refusal) (later : List ℕ) : Type 0 where
+  pub answer : r ≡ answered (verdict (run_checks tape out)) (length (output_of tape))
+  pub buffer : later ≡ output_by (verdict (run_checks tape out)) (output_of tape) out
   pub suffices : length (output_of tape) ≤ enough
 
 -- `enough` is enough: a buffer of so many octets is never refused. A claim, which proofs/Ran proves
 abbrev pub EnoughRoom : Type 0
 EnoughRoom =
-    (tape out : List ℕ) (r : Written) (later : List ℕ) → Runs tape out r later → enough ≤ length out
-    → r ≡ written.Length (length (output_of tape))
+    (tape out : List ℕ) (r : Result ℕ Refusal) (later : List ℕ) → Runs tape out r later → enough ≤ length out
+    → r ≡ Ok (length (output_of tape))

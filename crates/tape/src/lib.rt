@@ -5,9 +5,3 @@
 mod player;
 
 pub use player::run;
-
-#[derive(Drop)]
-pub enum Written {
-    Length(usize),
-    Refused(u8),
-}

@@ -2,11 +2,16 @@
 ghost use Rattle.std.specs.Prelude.{◌≡◌, ◌≤◌, length};
 ghost use Rattle.tape.specs.Player.{figures as figures_of, enough, played, output_of, PageHolds, Runs};
 
-use crate::Written;
 use counters::Counters;
-use turns::{Bench, Outcome};
+use octets::Refusal;
+use turns::Outcome;
 
-// The counters in the order of the last line.
+// How long the longest output is.
+const ENOUGH: usize = 53513;
+
+type Page = [u8; ENOUGH];
+
+// The counters in the order of the last line, which is the tape's and not theirs.
 #[tactic(auto, unfolding(crate::specs::Player::figures))]
 fn figures(k: Counters) -> [u64; 9]
     ensures { result ≡ figures_of k }
@@ -24,56 +29,50 @@ fn figures(k: Counters) -> [u64; 9]
     ]
 }
 
-// The lines of a tape that is not too long.
-fn play(tape: &[u8], page: &mut [u8]) -> usize
-    requires tape_len_bound { length tape.now ≤ 4096 }
-    requires enough_value { enough ≡ length page.old }
+// The lines of a tape that is not too long. An event is as long as its kind says, so the places of the events are no range.
+#[tactic(auto, using(crate::proofs::Played::starts, crate::proofs::Played::goes, crate::proofs::Turns::next_within))]
+fn play(tape: &[u8], page: &mut Page) -> usize
+    requires { length tape.now ≤ 4096 }
     ensures { PageHolds (played tape.now) result page.new }
 {
     let mut at = 0;
     let mut written = 0;
-    let mut bench = Bench::Waits;
+    let mut bench = None;
     loop {
         match turns::take_turn(tape, at, bench) {
-            Outcome::Next(line, state) => {
+            Ok(Outcome::Next(line, state)) => {
                 written = lines::write(line, page, written);
                 at = at + 1 + events::width(octets::octet(tape, at));
-                bench = Bench::Running(state);
+                bench = Some(state);
             }
-            Outcome::Fault(number) => return lines::fault(number, page, written),
-            Outcome::End(counters) => return lines::counts(figures(counters), page, written),
+            Ok(Outcome::End(counters)) => return lines::counts(figures(counters), page, written),
+            Err(refusal) => return lines::fault(refusal.number(), page, written),
         }
     }
 }
 
 // The whole output: "26 is checked before all else on a tape".
 #[tactic(auto, using(crate::proofs::Whole::over, crate::proofs::Whole::not_over))]
-fn output(tape: &[u8], page: &mut [u8]) -> usize
-    requires { enough ≡ length page.old }
+fn output(tape: &[u8], page: &mut Page) -> usize
     ensures { PageHolds (output_of tape.now) result page.new }
 {
     if tape.len() > 4096 {
-        lines::fault(26, page, 0)
+        lines::fault(Refusal::TapeLong.number(), page, 0)
     } else {
         play(tape, page)
     }
 }
 
-fn blank() -> [u8; 53513]
-    ensures { enough ≡ length result }
-{
-    [0; 53513]
-}
-
 // Runs the tape and writes its output to the start of `out`.
-pub fn run(tape: &[u8], out: &mut [u8]) -> Written
+#[tactic(auto, unfolding(crate::specs::Player::run_checks, octets::specs::Checks::verdict))]
+pub fn run(tape: &[u8], out: &mut [u8]) -> Result<usize, Refusal>
     ensures { Runs tape.now out.old result out.new }
 {
-    let mut page = blank();
+    let mut page = [0; ENOUGH];
     let n = output(tape, &mut page);
     if octets::put(&page[..n], out) {
-        Written::Length(n)
+        Ok(n)
     } else {
-        Written::Refused(8)
+        Err(Refusal::OutputShort)
     }
 }

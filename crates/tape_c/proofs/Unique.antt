@@ -3,9 +3,9 @@
 use Prim.Native.Nat.{ℕ}
 use mathlib.Core.Path.{◌≡◌}
 use mathlib.Core.List.{List}
-use Rattle.octets.proofs.Unique.{one}
+use Rattle.words.proofs.Unique.{writes_to_one}
 use Rattle.tape_c.specs.Tapes.{RunsTo}
 
-pub runs_to_one : {tape out : List ℕ} {before a b : ℕ} {l m : List ℕ} {x y : ℕ} → RunsTo tape out before a l x
+pub runs_to_one : (tape out : List ℕ) {before a b : ℕ} {l m : List ℕ} {x y : ℕ} → RunsTo tape out before a l x
     → RunsTo tape out before b m y → (a ≡ b) × (l ≡ m) × (x ≡ y)
-runs_to_one p q = (one p.answer q.answer, one p.buffer q.buffer, one p.told q.told)
+runs_to_one tape out = writes_to_one

@@ -1,3 +1,3 @@
-pub mod InTurn
+pub mod Rest
 pub mod NeverFourteen
 pub mod Unique

@@ -1,29 +1,26 @@
 -- One turn of the bench (document 01, "The bench tape"): the event at a place of the tape, or its end. What an event does is said by the
 -- calls of `recovery`, as `calls` answers them. Assumes nothing.
-use Rattle.std.specs.Prelude.{ℕ, ◌+◌, ◌≡◌, Bool, true, false, cond, List, length, get_or, ltb, eqb}
+use Rattle.std.specs.Prelude.{ℕ, ◌+◌, ◌≡◌, Bool, cond, List, length, get_or, ltb, eqb, Option, Some, None, is_some, Result, Ok, Err}
+use Rattle.octets.specs.declared.Refusal.{Refusal}
+use Rattle.octets.specs.declared.Refusal.TheVariants.{SetupMisplaced}
 use Rattle.octets.specs.Number.{be16, be32}
 use Rattle.octets.specs.Checks.{Verdict, good, refuse, verdict}
 use Rattle.setup.specs.declared.Setup.{Setup}
 use Rattle.setup.specs.Values.{setup_of}
 use Rattle.recovery.specs.declared.State.{State}
-use Rattle.recovery.specs.declared.Begun.{Begun}
-use Rattle.recovery.specs.declared.Begun.TheVariants as begin
+use Rattle.recovery.specs.declared.Stepped.{Stepped}
 use Rattle.recovery.specs.declared.Packet.TheVariants.{Numbered, Tagless}
 use Rattle.recovery.specs.Resets.{begun_from}
 use Rattle.calls.specs.declared.Call.{Call}
 use Rattle.calls.specs.declared.Call.TheVariants as call
 use Rattle.answers.specs.declared.Answer.{Answer}
 use Rattle.answers.specs.declared.Answer.TheVariants as answer
-use Rattle.calls.specs.declared.Called.{Called}
 use Rattle.calls.specs.Answering.{answered}
+use Rattle.lines.specs.declared.Line.{Line}
 use Rattle.lines.specs.declared.Line.TheVariants as line
 use Rattle.events.specs.Event.{checks}
-use Rattle.turns.specs.declared.Bench.{Bench}
-use Rattle.turns.specs.declared.Bench.TheVariants.{Waits, Running}
 use Rattle.turns.specs.declared.Outcome.{Outcome}
-use Rattle.turns.specs.declared.Outcome.TheVariants.{Next, Fault, End}
-use Rattle.turns.specs.declared.turn.Said.{Said}
-use Rattle.turns.specs.declared.turn.Said.TheVariants as said
+use Rattle.turns.specs.declared.Outcome.TheVariants.{Next, End}
 
 -- "(rule 1, taken 1, H 2, ms 4, ticks 2, paths 1, difference 4)", and by CR 2 a use in "one octet after taken", behind the kind at a place
 unfoldable pub setup_at : List ℕ → ℕ → Setup
@@ -50,68 +47,66 @@ call_at tape at =
     (cond (eqb kind 5) call.LatentReset call.LatentTest))))
 
 -- "Event lines: `ok` for setup, `pass` or `discard`, `tick`, `reset` (04, and a tick that timed out), `latent reset`, `latent ok` or
--- `latent error`"; what a call refuses is a fault
-abbrev pub line_of : Answer → Said
-line_of answer.Pass = said.Event line.Pass
-line_of answer.Discard = said.Event line.Discard
-line_of answer.Tick = said.Event line.Tick
-line_of answer.Timeout = said.Event line.Reset
-line_of answer.Reset = said.Event line.Reset
-line_of answer.LatentReset = said.Event line.LatentReset
-line_of answer.Agrees = said.Event line.LatentOk
-line_of answer.Error = said.Event line.LatentError
-line_of (answer.Refused number) = said.Fault number
+-- `latent error`"
+abbrev pub line_of : Answer → Line
+line_of answer.Pass = line.Pass
+line_of answer.Discard = line.Discard
+line_of answer.Tick = line.Tick
+line_of answer.Timeout = line.Reset
+line_of answer.Reset = line.Reset
+line_of answer.LatentReset = line.LatentReset
+line_of answer.Agrees = line.LatentOk
+line_of answer.Error = line.LatentError
 
--- what was said, with the next state; "A fault prints `fault N` and ends the output"
-abbrev pub with : Said → State → Outcome
-with (said.Event line) s = Next line s
-with (said.Fault number) s = Fault number
+-- the line of an answer, with the next state; what a call refuses is a fault: "A fault prints `fault N` and ends the output"
+abbrev pub with : Result Answer Refusal → State → Result Outcome Refusal
+with (Ok answer) s = Ok (Next (line_of answer) s)
+with (Err refusal) s = Err refusal
 
 -- what a call answered
-abbrev pub told : Called → Outcome
-told called = with (line_of called.answer) called.state
+abbrev pub told : Stepped Answer → Result Outcome Refusal
+told step = with step.answer step.state
 
 -- an event that is no setup
-unfoldable pub runs : List ℕ → ℕ → State → Outcome
+unfoldable pub runs : List ℕ → ℕ → State → Result Outcome Refusal
 runs tape at s = told (answered s (call_at tape at))
 
--- `ok` for setup; a setup out of range is a fault by its number
-abbrev pub begun : Begun → Outcome
-begun (begin.Ready s) = Next line.Ok s
-begun (begin.Refused number) = Fault number
+-- `ok` for setup; a setup out of range is a fault
+abbrev pub begun : Result State Refusal → Result Outcome Refusal
+begun (Ok s) = Ok (Next line.Ok s)
+begun (Err refusal) = Err refusal
 
 -- the setup at a place
-unfoldable pub begins : List ℕ → ℕ → Outcome
+unfoldable pub begins : List ℕ → ℕ → Result Outcome Refusal
 begins tape at = begun (begun_from (setup_at tape at))
 
--- whether the setup came
-abbrev pub is_set_up : Bench → Bool
-is_set_up Waits = false
-is_set_up (Running s) = true
+-- whether the setup came: the bench has a state from there on
+abbrev pub is_set_up : Option State → Bool
+is_set_up bench = is_some bench
 
 -- the event in its turn
-abbrev pub in_turn : List ℕ → ℕ → Bench → Outcome
-in_turn tape at Waits = begins tape at
-in_turn tape at (Running s) = runs tape at s
+abbrev pub in_turn : List ℕ → ℕ → Option State → Result Outcome Refusal
+in_turn tape at None = begins tape at
+in_turn tape at (Some s) = runs tape at s
 
--- a refusal is a fault by its number
-abbrev pub decided : Verdict → Outcome → Outcome
+-- a refusal is a fault
+abbrev pub decided : Verdict → Result Outcome Refusal → Result Outcome Refusal
 decided good outcome = outcome
-decided (refuse number) outcome = Fault number
+decided (refuse refusal) outcome = Err refusal
 
 -- "Per event: 23, 24, 25, then 15, 27, 16 to 19": its checks, and then the event in its turn, which checks a setup
-unfoldable pub event_at : List ℕ → ℕ → Bench → Outcome
+unfoldable pub event_at : List ℕ → ℕ → Option State → Result Outcome Refusal
 event_at tape at bench = decided (verdict (checks tape at (is_set_up bench))) (in_turn tape at bench)
 
 -- the end of the tape: the counters; "Empty tape: 25"
-abbrev pub at_end : Bench → Outcome
-at_end Waits = Fault 25
-at_end (Running s) = End s.counters
+abbrev pub at_end : Option State → Result Outcome Refusal
+at_end None = Err SetupMisplaced
+at_end (Some s) = Ok (End s.counters)
 
 -- what stands at a place: an event, or the end
-unfoldable pub outcome_at : List ℕ → ℕ → Bench → Outcome
+unfoldable pub outcome_at : List ℕ → ℕ → Option State → Result Outcome Refusal
 outcome_at tape at bench = cond (ltb at (length tape)) (event_at tape at bench) (at_end bench)
 
 -- the promise of `take_turn`
-abbrev pub Turns : List ℕ → ℕ → Bench → Outcome → Type 0
+abbrev pub Turns : List ℕ → ℕ → Option State → Result Outcome Refusal → Type 0
 Turns tape at bench r = r ≡ outcome_at tape at bench

@@ -9,17 +9,9 @@ use lines::Line;
 use recovery::State;
 pub use turn::take_turn;
 
-// The bench before its setup, and with the state that runs.
+// What comes of a turn that has no fault: a line with the next state, or at the end the counters.
 #[derive(Clone, Copy)]
-pub enum Bench {
-    Waits,
-    Running(State),
-}
-
-// What comes of a turn: a line with the next state, a fault, or at the end the counters.
-#[derive(Drop)]
 pub enum Outcome {
     Next(Line, State),
-    Fault(u8),
     End(Counters),
 }

@@ -4,5 +4,5 @@ use Rattle.states.proofs.ReadLaws.{none_there}
 use Rattle.recovery_c.proofs.Told.{unfit_answer}
 use Rattle.recovery_c.proofs.long.latent_test.Goals as goal
 
-pub returns-in-Nothing : goal.returns-in-Nothing
-returns-in-Nothing c = unfit_answer c.args.state.now LatentTest (none_there c.args.state.now c.in-Nothing.ensures)
+pub returns-in-None : goal.returns-in-None
+returns-in-None c = unfit_answer c.args.state.now LatentTest (none_there c.args.state.now c.in-None.ensures) c.number.ensures

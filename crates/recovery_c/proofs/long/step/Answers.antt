@@ -4,11 +4,11 @@ use Rattle.recovery_c.proofs.Told.{unfit_told, step_told}
 use Rattle.recovery_c.proofs.long.step.Goals as goal
 
 -- words that hold a state
-pub returns-in-State : goal.returns-in-State
-returns-in-State c =
-    let read = there c.args.state.now c.in-State.ensures in
-    step_told c.args.state.now c.args.call read.0 read.1 c.take-called.ensures c.number_of.ensures c.keep.ensures
+pub returns-in-Some : goal.returns-in-Some
+returns-in-Some c =
+    let read = there c.args.state.now c.in-Some.ensures in
+    step_told c.args.state.now c.args.call read.0 read.1 c.take-step.ensures c.code.ensures c.keep.ensures
 
 -- words that hold none whose setup is in range
-pub returns-in-Nothing : goal.returns-in-Nothing
-returns-in-Nothing c = unfit_told c.args.state.now c.args.call (none_there c.args.state.now c.in-Nothing.ensures)
+pub returns-in-None : goal.returns-in-None
+returns-in-None c = unfit_told c.args.state.now c.args.call (none_there c.args.state.now c.in-None.ensures) c.number.ensures

@@ -8,10 +8,10 @@ use Rattle.recovery_c.proofs.recoveries.step_short.Goals as goal
 pub returns-then-not-is_sound : goal.returns-then-not-is_sound
 returns-then-not-is_sound c =
     let read = short_there c.args.state.now c.requires in
-    unfit_told c.args.state.now c.args.call (λ _. rw read.is at (sym c.is_sound.ensures ∙ c.if-not-is_sound.true))
+    unfit_told c.args.state.now c.args.call (λ _. rw read.is at (sym c.is_sound.ensures ∙ c.if-not-is_sound.true)) c.number.ensures
 
 pub returns : goal.returns
 returns c =
     short_told c.args.state.now c.args.call (short_there c.args.state.now c.requires)
     (sym c.is_sound.ensures ∙ c.if-not-is_sound.false)
-    c.take-called.ensures c.number_of.ensures c.keep_short.ensures
+    c.take-step.ensures c.code.ensures c.keep_short.ensures
