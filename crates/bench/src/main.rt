@@ -4,14 +4,13 @@
 
 use std::io;
 use std::io::{Input, Print};
-use tape::Written;
 
 fn main(rt: HostRuntime) -> io::Result<()> {
     let mut octets = [0u8; 4097];
     let n = input::read_full(&mut rt.reader(), &mut octets)?;
     let mut page = [0u8; 65536];
     // The page has room for every output: a refusal is not to be had.
-    if let Written::Length(length) = tape::run(&octets[..n], &mut page) {
+    if let Ok(length) = tape::run(&octets[..n], &mut page) {
         rt.write_all(&page[..length])?;
     }
     Ok(())

@@ -6,7 +6,8 @@ ghost use Rattle.std.specs.Prelude.{◌≤◌, length, IfOk};
 use std::io;
 use std::io::Read;
 
-// Octets until the buffer is full or the input ends, however short the reads; how many they are.
+// Octets until the buffer is full or the input ends, however short the reads; how many they are. The library fills a slice by `read_exact`
+// alone, which fails where the input ends first.
 pub fn read_full(input: &mut impl Read, octets: &mut [u8]) -> io::Result<usize>
     ensures { IfOk result (λ n. n ≤ length octets.new) }
 {

@@ -10,50 +10,33 @@
 // is written. Whether the events make sense together is the tape's to say, so that a tape with a fault can be punched too.
 #![tactic(auto)]
 
+mod lines;
+mod mistakes;
+mod tape;
 mod words;
 
+use mistakes::Wrong;
 use std::io;
-use std::io::{Input, Print};
-use words::Punch;
-
-fn front(octets: &[u8], length: usize) -> &[u8] {
-    if length <= octets.len() {
-        &octets[..length]
-    } else {
-        octets
-    }
-}
+use std::io::{Eprint, Input, Print};
+use tape::Tape;
 
 // The whole text; its last line may lack the newline.
-fn punch(text: &[u8], tape: &mut [u8]) -> Punch {
-    let mut p = words::fresh();
-    let mut i = 0;
-    while i < text.len() {
-        p = words::step(p, text[i], tape);
-        i += 1;
+fn punch(text: &[u8], tape: &mut Tape) -> Result<(), Wrong> {
+    for (i, line) in text.split(|letter| *letter == b'\n').enumerate() {
+        lines::punch(line, tape).map_err(|mistake| Wrong {
+            line: i + 1,
+            mistake,
+        })?;
     }
-    words::step(p, b'\n', tape)
-}
-
-fn complain(says: &impl Print, line: u64, wrong: u8) -> io::Result<()> {
-    print!(says; "line {line}")?;
-    match wrong {
-        words::NO_EVENT => says.write_all(b": no such event\n"),
-        words::NO_NUMBER => says.write_all(b": not a number that fits here\n"),
-        words::TOO_FEW => says.write_all(b": a word is missing\n"),
-        words::TOO_MANY => says.write_all(b": a word too many\n"),
-        _ => says.write_all(b": no room for more octets\n"),
-    }
+    Ok(())
 }
 
 fn main(rt: HostRuntime) -> io::Result<()> {
     let mut text = [0u8; 65536];
     let n = input::read_full(&mut rt.reader(), &mut text)?;
-    let mut tape = [0u8; 65536];
-    let p = punch(&text[..n], &mut tape);
-    if p.wrong == 0 {
-        rt.write_all(front(&tape, p.length))
-    } else {
-        complain(&rt.stderr(), p.line, p.wrong)
+    let mut tape = Tape::new(rt.alloc())?;
+    match punch(&text[..n], &mut tape) {
+        Ok(()) => rt.write_all(tape.octets()),
+        Err(wrong) => eprintln!(rt; "{wrong}"),
     }
 }
