@@ -3,7 +3,7 @@ use Prim.Native.Nat.{ℕ, ◌<◌}
 use mathlib.Core.Path.{◌≡◌, refl, sym, ap, ◌∙◌}
 use mathlib.Core.Bool.{Bool, true, false, not, cond, ◌&&◌, ◌||◌, or-false, false≢true}
 use lib.Dec.{ltb}
-use borrow.Author.Tests.{lt-ltb, ltb-true}
+use borrow.Author.Tests.{lt-ltb, ltb-true, not-true, not-false}
 use mir.Val.{bool_byte}
 
 -- to show something, show it with each of the two things that a test can say
@@ -66,3 +66,10 @@ module _ (b : Bool) {flag p later : Bool} (so_far : flag ≡ p) where
 
   pub and_clear : flag ≡ false → later ≡ flag → later ≡ p && b
   and_clear f e = e ∙ f ∙ ap (λ (x : Bool). x && b) (sym f ∙ so_far)
+
+-- what a call said, by the branch that was taken on its negation
+pub said_yes : {r b : Bool} → r ≡ b → not r ≡ false → b ≡ true
+said_yes e p = sym e ∙ not-false _ p
+
+pub said_no : {r b : Bool} → r ≡ b → not r ≡ true → b ≡ false
+said_no e p = sym e ∙ not-true _ p

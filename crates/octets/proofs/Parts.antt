@@ -5,11 +5,16 @@ use mathlib.Core.Path.{◌≡◌, ap}
 use mathlib.Core.Bool.{Bool}
 use mathlib.Core.List.{List, ◌++◌, append-nil, append_assoc}
 use lib.ListN.{length, take, drop, length-append, length-drop, drop_of_length-le}
-use lib.Seq.{take_all, drop-drop, take-append_seam, drop-append-add}
+use lib.Seq.{take-length, take_all, drop-drop, take-append_seam, drop-append-add}
 use borrow.Author.Tests.{le-leb}
 use borrow.Rule.Slice.PartMut.{put_mid, mid_of}
 use Rattle.octets.specs.Copy.{put_in, Puts}
 use Rattle.octets.specs.Part.{HandedBack}
+
+-- all of a source, put at the start
+pub all_copied : {A : Type 0} (src out : List A) {later : List A} → later ≡ take (length src) src ++ drop (length src) out
+    → later ≡ put_in src out
+all_copied src out e = simp (e, take-length)
 
 -- the part from a place to the end, as the logic has it
 pub to_end : (at : ℕ) (l : List ℕ) → take (length l - at) (drop at l) ≡ drop at l
