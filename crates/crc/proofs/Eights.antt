@@ -6,7 +6,7 @@ use mathlib.Core.Path.{◌≡◌, refl, ap, ◌∙◌}
 use mathlib.Core.List.{List, []}
 use lib.Bits.{bit_xor}
 use lib.ListN.{length, get_or, take, drop, length-drop}
-use lib.Seq.{drop-drop, take_all}
+use lib.Seq.{drop-drop}
 use mir.Syntax.{w8}
 use mir.Val.{Fits}
 use Rattle.std.specs.Array.{IsFirstChunk}
@@ -14,7 +14,7 @@ use Rattle.std.specs.Int.{w32, w64, from_le_bytes}
 use Rattle.std.specs.Simd.{first_chunks}
 use Rattle.crc.specs.Tables.{steps, through}
 use Rattle.crc.proofs.LowFirst.{low_four, low_eight}
-use Rattle.crc.proofs.Register.{word_more}
+use Rattle.crc.proofs.Register.{word_more, four_left as last_four}
 
 -- the i-th of the parts that a list is cut into
 part_at : (n k i : ℕ) (o : List ℕ) → i < k → get_or (first_chunks n k o) i [] ≡ take n (drop (n * i) o)
@@ -47,5 +47,4 @@ module _ (o : List ℕ) (octets : (k : ℕ) → Fits w8 (get_or o k 0)) (c past 
       let value : x ≡ from_le_bytes w32 (take 4 (drop here o))
       = read ∙ ap (from_le_bytes w32) (first.same ∙ ap (take 4) left) in
       let room : here + 4 ≤ length o = omega (arith, first.enough, ap length left, length-drop here o) in
-      rw so_far (word_more 4 c o here x (omega arith) below (low_four o octets here x room value))
-      ∙ ap (through c) (take_all (here + 4) o (omega arith))
+      last_four c o here x past so_far (omega arith) below (low_four o octets here x room value)

@@ -6,7 +6,7 @@ use mathlib.Core.Path.{◌≡◌, refl, sym, ap, ap₂, ◌∙◌}
 use mathlib.Core.Bool.{Bool, not}
 use mathlib.Core.List.{List, [], ◌∷◌, ◌++◌, append_assoc, map}
 use lib.ListN.{length, take, drop, get_or, length-append, length-map, take-append-drop}
-use lib.Seq.{take-add}
+use lib.Seq.{take-add, take_all}
 use lib.Bits.{bit_xor, xor_shr, xor_zero_r, xor_lt}
 use lib.Pow.{shr_le, pow_mono}
 use Rattle.octets.proofs.Parts.{to_end}
@@ -132,6 +132,14 @@ word_more n c o at x h p q =
     = div-eq_of_lt (lt_of_lt_of_le (through_below c (take at o)) (pow_mono {i = 32} {j = 8 * n} (omega arith))) in
     let all = steps (8 * n) (bit_xor before x) in
     sym (through_more n c o at x p q ∙ ap (bit_xor all) none ∙ xor_zero_r all)
+
+-- four octets at the end
+pub four_left : (c : ℕ) (o : List ℕ) (at x past : ℕ) → past ≡ through c (take at o) → length o ≤ at + 4 → x < 2 ^ 32 → Low 4 o at x
+    → steps 32 (bit_xor past x) ≡ through c o
+four_left c o at x past e h below low =
+    ap (λ (n : ℕ). steps 32 (bit_xor n x)) e
+    ∙ word_more 4 c o at x (omega arith) below low
+    ∙ ap (through c) (take_all (at + 4) o h)
 
 -- the check is what the register lacks of all ones, having begun with them; in two parts, since the octets go through it so
 pub in_two_parts : (o : List ℕ) (n first past : ℕ) → first ≡ through 4294967295 (take n o)

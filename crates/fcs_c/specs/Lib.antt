@@ -1,1 +1,2 @@
 pub mod Sequences
+pub mod Told
