@@ -72,6 +72,15 @@ module _ (o : List ℕ) {k : ℕ} (is : k ≡ get_or o 0 0) where
   pub read_cut : (n : ℕ) → k ≡ n → known n ≡ true → 0 < octets_after n → length o < suc (octets_after n) → Err CardCut ≡ next_card o
   read_cut n e is some h = cut o (kind_is e) is some h
 
+  pub read_cut_order : k ≡ 0x10 → length o < 5 → Err CardCut ≡ next_card o
+  read_cut_order e = read_cut 0x10 e refl (lit< tt)
+
+  pub read_cut_code : k ≡ 0x11 → length o < 3 → Err CardCut ≡ next_card o
+  read_cut_code e = read_cut 0x11 e refl (lit< tt)
+
+  pub read_cut_millivolts : k ≡ 0x12 → length o < 3 → Err CardCut ≡ next_card o
+  read_cut_millivolts e = read_cut 0x12 e refl (lit< tt)
+
   pub read_other : k ≢ 0x00 → k ≢ 0x10 → k ≢ 0x11 → k ≢ 0x12 → Err CardKind ≡ next_card o
   read_other = other o (kind_is refl)
 

@@ -113,6 +113,11 @@ unfolding place standing
 stands_at e o r c =
     by_cases (in_front e) (λ f. rw f (omega (arith, starts o r, payload_tagged o (carried_sequenced e o f c)))) (λ f. rw f)
 
+-- where both places are so low, so is the one that an encoding has
+pub place_below : (e : Encoding) {front back most : ℕ} → front ≤ most → back ≤ most → place e front back ≤ most
+unfolding place
+place_below e f b = by_cases (in_front e) (λ t. rw t f) (λ t. rw t b)
+
 -- what a frame carries, by the tag that was read
 module _ (e : Encoding) (o : List ℕ) {h : Header} (r : Ok h ≡ reading o) (f : in_front e ≡ true) where
   pub no_tag : h.tag ≡ None → None ≡ sequence e o

@@ -130,6 +130,21 @@ module _ {o : List ℕ} {at : ℕ} {v : Option ℕ} (b : Before o at v) where
             let clear = comes_to good (simp (is_sequenced r, ← b.place, whole, ne_eqb _ _ c, e)) in
             rw (← clear) (simp (b.is_vlan, is_sequenced r, ← b.place))
 
+-- the two good ends, by what was read on the way
+module _ {o : List ℕ} {at : ℕ} {v : Option ℕ} (b : Before o at v) where
+  pub read_bare : {first p : ℕ} {h : Header}
+      → first ≡ be16 o at → (first ≡ R_TAG → ⊥) → (first ≡ HSR_TAG → ⊥)
+      → p ≡ at + 2 → h ≡ header_of o v None first p → Ok h ≡ reading o
+  read_bare f r s q e = rw (e, f, q) (bare b (announced_by_none _ (rw f at r) (rw f at s)))
+
+  pub read_tagged : {type number kind p : ℕ} {h : Header}
+      → be16 o at ≡ type → announces type ≡ true → at + 8 ≤ length o
+      → kind ≡ be16 o (at + 6) → (kind ≡ C_TAG → ⊥) → (kind ≡ R_TAG → ⊥) → (kind ≡ HSR_TAG → ⊥)
+      → number ≡ be16 o (at + 4) → p ≡ at + 8 → h ≡ header_of o v (Some (record { kind = type; number = number })) kind p → Ok h ≡ reading o
+  read_tagged a n l k c r s m q e =
+      let eight : at + 8 ≡ at + 6 + 2 = omega arith in
+      rw (e, k, m, q, ← a, eight) (with_tag b (rw a n) l (rw k at c) (announced_by_none _ (rw k at r) (rw k at s)))
+
 -- what the proofs of the three steps rest on
 pub ruleset of_read = (too_short, too_long, ctag_cut, vlan_reserved, ctag_twice)
 

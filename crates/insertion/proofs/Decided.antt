@@ -1,26 +1,29 @@
 -- Which check decides an insertion, from the answer of reading and the tests on the way. Assumes nothing.
-use Prim.Native.Nat.{ℕ, ◌+◌, ◌-◌, ◌≤◌}
+use Prim.Native.Nat.{ℕ, ◌+◌, ◌-◌, ◌≤◌, ◌<◌}
 use native.Mathlib.Omega.{arith}
 use mathlib.Core.Path.{◌≡◌, refl, sym, ◌∙◌}
 use mathlib.Core.Bool.{Bool, true, false, false≢true, cond, ◌&&◌}
 use mathlib.Core.List.{List}
 use lib.ListN.{length}
 use lib.Dec.{ltb}
+use borrow.Author.Tests.{lt-ltb, le-ltb}
 use Rattle.std.specs.Prelude.{Result, Ok, Err, is_some}
 use Rattle.octets.specs.declared.Refusal.{Refusal}
 use Rattle.octets.specs.declared.Refusal.TheVariants.{TagThere, ResultLong, OutputShort, PathId}
+use Rattle.octets.specs.Copy.{put_in}
 use Rattle.octets.specs.Checks.{Verdict, good, refuse, verdict}
 use Rattle.octets.proofs.Bools.{by_cases}
 use Rattle.frame.specs.declared.Header.{Header}
-use Rattle.frame.specs.Layout.{tag_place, payload_length}
+use Rattle.frame.specs.Layout.{tag_place, sequenced, payload_length}
 use Rattle.frame.specs.Reader.{reading}
 use Rattle.frame.proofs.Accepted.{starts_within, read_refused, read_good, payload_bare}
 use Rattle.encoding.specs.declared.Encoding.{Encoding}
 use Rattle.encoding.specs.Encodings.{in_front, place, six}
 use Rattle.encoding.proofs.Carried.{is_sequenced, starts, far, payload_octets}
 use Rattle.encoding.proofs.ThreeWords.{six_long}
-use Rattle.tag.specs.Insertion.{inserted_at, inserted, insert_checks}
+use Rattle.tag.specs.Insertion.{inserted_at, inserted, insert_checks, Inserts}
 use Rattle.tag.proofs.Splice.{length_inserted}
+use Rattle.tag.proofs.Decided.{refuses, writes}
 
 -- either place lies within the frame
 pub place_within : (e : Encoding) (o : List ℕ) {h : Header} → Ok h ≡ reading o → place e (h.payload - 2) (length o) ≤ length o
@@ -55,6 +58,9 @@ start_by (Ok h) = h.payload
 start_by (Err k) = 0
 
 module _ (e : Encoding) (o : List ℕ) where
+  told_there : {h : Header} → Ok h ≡ reading o → (in_front e && sequenced o) ≡ (in_front e && is_some h.tag)
+  told_there r = rw (is_sequenced o r) refl
+
   decided_by : (id room : ℕ) (r : Result Header Refusal) → r ≡ reading o
       → verdict (insert_checks e o id room) ≡ insert_by r e (length o) id room
   unfolding insert_checks verdict
@@ -84,6 +90,44 @@ module _ (e : Encoding) (o : List ℕ) where
 
   pub tagged_length : (n id : ℕ) → there_by (reading o) e ≡ false → length (inserted e o n id) ≡ length o + 6
   tagged_length n id t = (tagged_by n id (reading o) refl t).1
+
+-- what each check answers, and a frame that none refuses
+module _ (e : Encoding) (o : List ℕ) (n id : ℕ) (out : List ℕ) where
+  pub insert_unread : {k : Refusal} → Err k ≡ reading o → Inserts e o n id out (Err k) out
+  insert_unread r = refuses (inserted e o n id) out (decided_by e o id (length out) (Err _) r)
+
+  module _ {h : Header} (r : Ok h ≡ reading o) where
+    pub insert_over : 15 < id → Inserts e o n id out (Err PathId) out
+    insert_over i = refuses (inserted e o n id) out (decided_by e o id (length out) (Ok h) r ∙ simp (lt-ltb _ _ i))
+
+    module _ (i : id ≤ 15) where
+      pub insert_there : (in_front e && is_some h.tag) ≡ true → Inserts e o n id out (Err TagThere) out
+      insert_there t = refuses (inserted e o n id) out (decided_by e o id (length out) (Ok h) r ∙ simp (le-ltb _ _ i, t))
+
+      module _ (free : (in_front e && is_some h.tag) ≡ false) where
+        pub insert_long : 1522 < length o + 6 → Inserts e o n id out (Err ResultLong) out
+        insert_long l =
+            refuses (inserted e o n id) out (decided_by e o id (length out) (Ok h) r ∙ simp (le-ltb _ _ i, free, lt-ltb _ _ l))
+
+        module _ (l : length o + 6 ≤ 1522) where
+          pub insert_no_room : length out < length o + 6 → Inserts e o n id out (Err OutputShort) out
+          insert_no_room s =
+              refuses
+              (inserted e o n id)
+              out
+              (decided_by e o id (length out) (Ok h) r ∙ simp (le-ltb _ _ i, free, le-ltb _ _ l, lt-ltb _ _ s))
+
+          pub insert_done : length o + 6 ≤ length out → {later : List ℕ}
+              → later ≡ put_in (inserted_at o (place e (h.payload - 2) (length o)) (six e n id (length o + 6 - h.payload))) out
+              → Inserts e o n id out (Ok (length o + 6)) later
+          insert_done s f =
+              let whole = tagged_by e o n id (Ok h) r free in
+              writes
+              (inserted e o n id)
+              out
+              (decided_by e o id (length out) (Ok h) r ∙ simp (le-ltb _ _ i, free, le-ltb _ _ l, le-ltb _ _ s))
+              (sym whole.1)
+              (rw whole.0 f)
 
 -- what the proof of the insertion rests on
 pub ruleset of_insert = (decided, tagged, tagged_length, starts_within, far, place_within)

@@ -1,14 +1,16 @@
 -- Which check decides a removal, from the answer of reading and the tests on the way. Assumes nothing.
-use Prim.Native.Nat.{ℕ, ◌+◌, ◌-◌, ◌≤◌}
+use Prim.Native.Nat.{ℕ, ◌+◌, ◌-◌, ◌≤◌, ◌<◌}
 use native.Mathlib.Omega.{arith}
 use mathlib.Core.Path.{◌≡◌, refl, sym, ◌∙◌, ap}
 use mathlib.Core.Bool.{Bool, true, false, false≢true, not, cond}
 use mathlib.Core.List.{List}
 use lib.ListN.{length}
 use lib.Dec.{ltb}
+use borrow.Author.Tests.{lt-ltb, le-ltb}
 use Rattle.std.specs.Prelude.{Option, Result, Ok, Err, is_some}
 use Rattle.octets.specs.declared.Refusal.{Refusal}
 use Rattle.octets.specs.declared.Refusal.TheVariants.{OutputShort, NoTag}
+use Rattle.octets.specs.Copy.{put_in}
 use Rattle.octets.specs.Checks.{Verdict, good, refuse, verdict}
 use Rattle.octets.proofs.Bools.{by_cases}
 use Rattle.frame.proofs.Accepted.{frame_good, starts_within, read_refused, read_good}
@@ -19,8 +21,9 @@ use Rattle.encoding.specs.Encodings.{in_front, place, carries, standing}
 use Rattle.encoding.specs.Reader.{reading_in}
 use Rattle.encoding.proofs.Carried.{far, stands_at, standing_within}
 use Rattle.encoding.proofs.Answered.{header_of, refusal_of, numbered_told}
-use Rattle.tag.specs.Removal.{removed_at, removed, remove_checks}
+use Rattle.tag.specs.Removal.{removed_at, removed, remove_checks, Removes}
 use Rattle.tag.proofs.Splice.{length_removed}
+use Rattle.tag.proofs.Decided.{refuses, writes}
 
 -- the verdict as the code comes to it, by the answer of reading
 abbrev pub remove_by : Result Packet Refusal → (long room : ℕ) → Verdict
@@ -73,12 +76,35 @@ module _ (e : Encoding) (o : List ℕ) where
   pub bare_length : numbered_by (reading_in e o) ≡ true → length (removed e o) ≡ length o - 6
   bare_length t = (bare_by (reading_in e o) refl t).1
 
+-- what each check answers, and a frame that none refuses
+module _ (e : Encoding) (o out : List ℕ) where
+  pub remove_unread : {k : Refusal} → Err k ≡ reading_in e o → Removes e o out (Err k) out
+  remove_unread r = refuses (removed e o) out (decided_by e o (length out) (Err _) r)
+
+  module _ {p : Packet} (r : Ok p ≡ reading_in e o) where
+    pub remove_none : is_some p.sequence ≡ false → Removes e o out (Err NoTag) out
+    remove_none t = refuses (removed e o) out (decided_by e o (length out) (Ok p) r ∙ simp t)
+
+    module _ (t : is_some p.sequence ≡ true) where
+      pub remove_no_room : length out < length o - 6 → Removes e o out (Err OutputShort) out
+      remove_no_room l = refuses (removed e o) out (decided_by e o (length out) (Ok p) r ∙ simp (t, lt-ltb _ _ l))
+
+      pub remove_done : length o - 6 ≤ length out → {later : List ℕ}
+          → later ≡ put_in (removed_at o (place e (p.header.payload - 8) (length o - 6))) out
+          → Removes e o out (Ok (length o - 6)) later
+      remove_done l f =
+          let whole = bare_by e o (Ok p) r t in
+          writes (removed e o) out (decided_by e o (length out) (Ok p) r ∙ simp (t, le-ltb _ _ l)) (sym whole.1) (rw whole.0 f)
+
 -- a frame that was read has its addresses and a type before its payload, which starts within it
 pub far_in : (e : Encoding) (o : List ℕ) {p : Packet} → Ok p ≡ reading_in e o → 14 ≤ p.header.payload
 far_in e o r = far o (header_of e o r).0
 
 pub within : (e : Encoding) (o : List ℕ) {p : Packet} → Ok p ≡ reading_in e o → p.header.payload ≤ length o
 within e o r = starts_within o (header_of e o r).0
+
+pub long : (e : Encoding) (o : List ℕ) {p : Packet} → Ok p ≡ reading_in e o → (14 ≤ p.header.payload) × (p.header.payload ≤ length o)
+long e o r = (far_in e o r, within e o r)
 
 -- so six octets lie within it behind either place
 pub place_within : (e : Encoding) (o : List ℕ) {p : Packet} → Ok p ≡ reading_in e o

@@ -1,4 +1,5 @@
 pub mod Splice
+pub mod Decided
 pub mod Unique
 pub mod Alike
 pub mod Inserted

@@ -2,10 +2,11 @@
 use Prim.Native.Nat.{ℕ, zero, suc, ◌+◌, ◌-◌, ◌≤◌, ◌<◌}
 use native.Mathlib.Omega.{arith}
 use mathlib.Core.Path.{◌≡◌, refl, sym, ◌∙◌, ap}
-use mathlib.Core.Bool.{Bool}
+use mathlib.Core.Bool.{Bool, true}
 use mathlib.Core.List.{List, [], ◌∷◌, ◌++◌, append_assoc}
 use lib.ListN.{length, get_or, take, drop, length-append, length-drop, take-append-drop, get_or-append}
 use lib.Seq.{length-take-le, take_at, drop_at, drop-drop, ext_get_or, get_or-append-add, get_or-take, get_or-drop}
+use borrow.Author.Tests.{le-leb}
 use Rattle.octets.specs.Number.{be16}
 use Rattle.octets.specs.Copy.{put_in, Puts}
 use borrow.Rule.Slice.PartMut.{put_mid, mid_of}
@@ -79,6 +80,16 @@ module _ (o six : List ℕ) (at : ℕ) (n : length six ≡ 6) (w : at ≤ length
             ∙ get_or-drop at o (k + 6 - at - length six) 0
             ∙ ap (λ (j : ℕ). get_or o j 0) e;
       }
+
+-- the six and the octets behind them, one after the other, are put as one copy would put them
+pub put_tagged : (six rest out : List ℕ) → length six ≡ 6 → length rest + 6 ≤ length out
+    → {front back : List ℕ} {r r' : Bool} → Puts six out r front
+    → Puts rest (mid_of 6 (length front - 6) front) r' back
+    → Puts (six ++ rest) out true (put_mid 6 (length front - 6) front back)
+put_tagged six rest out n room p q =
+    let fits : length (six ++ rest) ≤ length out = simp (length-append) (omega arith) in
+    let whole = put_next six rest out (put_first (omega arith) p) (sym n) (omega arith) q in
+    record { answer = sym (le-leb _ _ fits); buffer = simp (le-leb _ _ fits, whole) }
 
 -- two copies in a row: the octets before a place, and others behind them
 put_two : (o others out : List ℕ) (at : ℕ) → at ≤ length o → at + length others ≤ length out
