@@ -1,4 +1,5 @@
 pub mod RuleLaws
+pub mod TimerLaws
 pub mod SoundLaws
 pub mod FirstLaws
 pub mod SoundCalls

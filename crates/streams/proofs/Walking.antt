@@ -80,6 +80,10 @@ module _ (t : List ℕ) (h : Header) (from : Place) {front : ℕ} {place : Place
     top : front / 72057594037927936 ≡ get_or t place.at 0
     top = rw whole_front (first_octet t w.octets place.at)
 
+    -- the kind is an octet
+    pub kind_below : front / 72057594037927936 < 256
+    kind_below = rw top (w.octets place.at)
+
     pub crowd : 256 ≤ place.passed → Seeks t h from (Rest place)
     crowd l = stopped (λ g p. absurd (omega (arith, good_few t place inside refl g)))
 

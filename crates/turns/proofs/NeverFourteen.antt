@@ -1,6 +1,7 @@
--- No turn ends with fault 14 (`specs/NeverFourteen`): neither a check nor a call on a sound state is refused so. Assumes nothing.
+-- No turn ends with fault 14 (`specs/NeverFourteen`): neither a check nor a call on a sound state has that number. Assumes nothing.
 use Rattle.std.specs.Prelude.{Option, Some, None, Result, Ok, Err}
 use Prim.Native.Nat.{ℕ}
+use native.Mathlib.Omega.{arith}
 use mathlib.Core.Path.{◌≡◌, refl, sym, ap, ◌∙◌}
 use mathlib.Core.Bool.{Bool, true, false, not, ◌&&◌, false≢true}
 use mathlib.Core.List.{List, [], ◌∷◌}
@@ -8,9 +9,8 @@ use lib.ListN.{length}
 use lib.Dec.{ltb, eqb}
 use borrow.Author.Tests.{eq-eqb}
 use Rattle.octets.specs.declared.Refusal.{Refusal}
-use Rattle.octets.specs.declared.Refusal.TheVariants.{Unsound}
 use Rattle.octets.specs.Refusals.{number}
-use Rattle.octets.specs.Checks.{Check, ◌⇒◌, Verdict, good, refuse, verdict, answered as by_verdict}
+use Rattle.octets.specs.Checks.{Check, ◌⇒◌, Verdict, good, refuse, verdict, refusal, answered as by_verdict}
 use Rattle.octets.proofs.Bools.{either, both}
 use Rattle.setup.specs.declared.Setup.{Setup}
 use Rattle.setup.specs.Range.{setup_checks, checked}
@@ -45,29 +45,28 @@ unfoldable lacks : List Check → Bool
 lacks [] = true
 lacks ((b ⇒ r) ∷ rest) = not (eqb (number r) 14) && lacks rest
 
-not_14 : (r : Refusal) → not (eqb (number r) 14) ≡ true → r ≡ Unsound → ⊥
-unfolding number
-not_14 r e is = false≢true (sym (ap not (eq-eqb (number r) 14 (ap number is))) ∙ e)
+not_14 : (r : Refusal) → not (eqb (number r) 14) ≡ true → number r ≡ 14 → ⊥
+not_14 r e is = false≢true (sym (ap not (eq-eqb (number r) 14 is)) ∙ e)
 
 -- so 14 is never their answer
-never : (checks : List Check) → lacks checks ≡ true → verdict checks ≡ refuse Unsound → ⊥
+never : (checks : List Check) → lacks checks ≡ true → refusal (verdict checks) ≡ 14 → ⊥
 unfolding verdict lacks
-never [] e q = cc
-never ((true ⇒ r) ∷ rest) e q = not_14 r (both (not (eqb (number r) 14)) (lacks rest) e).0 cc
+never [] e q = omega arith
+never ((true ⇒ r) ∷ rest) e q = not_14 r (both (not (eqb (number r) 14)) (lacks rest) e).0 q
 never ((false ⇒ r) ∷ rest) e q = never rest (both (not (eqb (number r) 14)) (lacks rest) e).1 q
 
-decided_kept : (v : Verdict) (o : Result Outcome Refusal) → (v ≡ refuse Unsound → ⊥) → Kept o → Kept (decided v o)
+decided_kept : (v : Verdict) (o : Result Outcome Refusal) → (refusal v ≡ 14 → ⊥) → Kept o → Kept (decided v o)
 decided_kept good o other p = p
-decided_kept (refuse r) o other p = faulty (λ (e : r ≡ Unsound). other (ap refuse e))
+decided_kept (refuse r) o other p = faulty other
 
 -- a setup's refusal is 15 to 19 or 27
-setup_kept : (setup : Setup) → checked setup ≡ refuse Unsound → ⊥
+setup_kept : (setup : Setup) → refusal (checked setup) ≡ 14 → ⊥
 unfolding checked setup_checks lacks number
 setup_kept setup = never (setup_checks setup) refl
 
-fresh_kept : (v : Verdict) (s : State) → (v ≡ refuse Unsound → ⊥) → (v ≡ good → sound s ≡ true) → Kept (begun (by_verdict v s))
+fresh_kept : (v : Verdict) (s : State) → (refusal v ≡ 14 → ⊥) → (v ≡ good → sound s ≡ true) → Kept (begun (by_verdict v s))
 fresh_kept good s other ok = goes (ok refl)
-fresh_kept (refuse r) s other ok = faulty (λ (e : r ≡ Unsound). other (ap refuse e))
+fresh_kept (refuse r) s other ok = faulty other
 
 begun_kept : (setup : Setup) → Kept (begun (begun_from setup))
 unfolding begun_from
@@ -81,7 +80,7 @@ turn_kept tape at (Some s) (runs_on ok) = runs_kept s ok tape at
 
 end_kept : (bench : Option State) → Kept (at_end bench)
 unfolding number
-end_kept None = faulty (not_14 _ refl)
+end_kept None = faulty (λ (e : ◌≡◌ {A = ℕ} 25 14). omega arith)
 end_kept (Some s) = ends
 
 pub never_fourteen : NeverFourteen
