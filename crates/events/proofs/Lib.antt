@@ -1,2 +1,3 @@
 pub mod KnownKinds
+pub mod Refusals
 pub mod Unique
