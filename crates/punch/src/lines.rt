@@ -82,9 +82,7 @@ fn tick(word: Option<&[u8]>, tape: &mut Tape) -> Result<(), Mistake> {
         let count @ 1..=65536 = number::<u32>(word)? else {
             return Err(Mistake::NoNumber);
         };
-        for _ in 1..count {
-            tape.push(Kind::Tick as u8)?;
-        }
+        tape.fill(Kind::Tick as u8, count - 1)?;
     }
     Ok(())
 }

@@ -1,5 +1,5 @@
 // The tape that is punched: at most 65,536 octets, for which it has room from the start.
-ghost use Rattle.std.specs.Prelude.{◌≡◌, ◌+◌, ◌<◌, ◌≤◌, ◌↔◌, List, ℕ, [], ◌∷◌, ◌++◌, length, OnOk, OnErr, IfOk, IfErr, IsErr, vec_len, vec_capacity};
+ghost use Rattle.std.specs.Prelude.{◌≡◌, ◌+◌, ◌<◌, ◌≤◌, ◌↔◌, List, ℕ, [], ◌∷◌, ◌++◌, length, replicate, OnOk, OnErr, IfOk, IfErr, IsErr, vec_len, vec_capacity};
 ghost use Rattle.punch.specs.declared.tape.TheConstants.{ROOM};
 
 use crate::mistakes::Mistake;
@@ -58,5 +58,20 @@ impl Tape {
         ensures no_room { IfErr result (λ e. e ≡ Mistake.NoRoom) }
     {
         self.put(&[octet])
+    }
+
+    // So many octets more that are alike.
+    pub fn fill(&mut self, octet: u8, times: u32) -> Result<(), Mistake>
+        ensures ok { OnOk result (self.new ≡ self.old ++ replicate times octet) }
+        ensures err { OnErr result (self.new ≡ self.old) }
+        ensures full { IsErr result ↔ (ROOM < length self.old + times) }
+        ensures no_room { IfErr result (λ e. e ≡ Mistake.NoRoom) }
+    {
+        let all = self.octets.len() + times as usize;
+        if ROOM < all {
+            return Err(Mistake::NoRoom);
+        }
+        self.octets.resize(all, octet).unwrap();
+        Ok(())
     }
 }
