@@ -26,8 +26,8 @@
  * From outside the archive needs memcpy and memset, and nothing else. Only ahz_tape_v3 uses them.
  *
  * Stack. A call takes at most AHZ_STACK octets, ahz_crc32 and those on a check sequence AHZ_FCS_STACK, and ahz_tape_v3 AHZ_TAPE_STACK;
- * tests/c/stack.c holds both targets to it. In this version it finds 54,488 octets on x86_64 for ahz_tape_v3, what its memcpy and memset
- * take among them; 1,104 for a check sequence; 472 for ahz_numbered, whose history may be long; and at most 164 for any other call. On
+ * tests/c/stack.c holds both targets to it. In this version it finds 54,424 octets on x86_64 for ahz_tape_v3, what its memcpy and memset
+ * take among them; 1,104 for a check sequence; 472 for ahz_numbered, whose history may be long; and at most 168 for any other call. On
  * aarch64 an earlier compiler had 54,928, 1,216, 320 and 160. The bounds are the archive's own: what memcpy and memset take comes on top,
  * and what the dynamic linker takes where it looks these two up at their first call. On x86_64 the code also writes below its stack
  * pointer, into the red zone of the System V convention.
