@@ -15,9 +15,6 @@ use Rattle.fcs.proofs.Trips.{damage_seen, wrong_bit_seen}
 use Rattle.fcs_c.specs.Sequences.{ChecksTo}
 use Rattle.fcs_c.specs.Told.{ZeroAccepts, AcceptedByZero, DamageTold, WrongBitTold}
 
-pub zero_accepts : ZeroAccepts
-zero_accepts o e = rw (none_refused (verdict (checks o)) (sym e)) refl
-
 -- what C is answered is the number of what `check` answers
 code_answered : (o : List ℕ) {r : ℕ} (answer : Result ⊤ Refusal) → ChecksTo o r → Checks o answer → r ≡ code_of answer
 code_answered o answer e c =
@@ -25,6 +22,9 @@ code_answered o answer e c =
 
 pub accepted_by_zero : AcceptedByZero
 accepted_by_zero o r good e = code_answered o (Ok tt) e good
+
+pub zero_accepts : ZeroAccepts
+zero_accepts o e = rw (none_refused (verdict (checks o)) (sym e)) refl
 
 -- a frame that `check` refuses for its check is answered by 28
 by_28 : (o : List ℕ) {r : ℕ} → ChecksTo o r → Checks o (Err WrongCheck) → r ≡ 28
